@@ -55,6 +55,28 @@ struct told {
 
 const char *luffa_version(void) { return "0.1.0 (" LUFFA_PROOF ")"; }
 
+const char *luffa_strerror(luffa_status status) {
+    static const char *const TEXTS[] = {
+        [LUFFA_OK] = "no error",
+        [LUFFA_NO_SHARDS] = "the cache has no shards",
+        [LUFFA_ZERO_DENOMINATOR] = "a ratio has the denominator 0",
+        [LUFFA_RATIO_RANGE] = "a ratio is out of its range",
+        [LUFFA_RATIO_SUM] = "window and protected leave nothing to probation",
+        [LUFFA_NO_ROWS] = "the sketch has no rows",
+        [LUFFA_NO_BUCKETS] = "the sketch has no buckets",
+        [LUFFA_NO_MEMORY] = "out of memory",
+        [LUFFA_WEIGHT] = "the weights would overflow",
+        [LUFFA_HANDLES] = "too many entries of a record",
+        [LUFFA_IDS] = "no number is left for a record or a fetch",
+        [LUFFA_CANCELLED] = "no value was made",
+        [LUFFA_WRONG_POLICY] = "the configuration is of another policy",
+        [LUFFA_MISSING] = "the cache has no such record",
+        [LUFFA_NO_POLICY] = "no policy has this number",
+    };
+    const char *text = status < sizeof TEXTS / sizeof *TEXTS ? TEXTS[status] : NULL;
+    return text != NULL ? text : "unknown status";
+}
+
 luffa_config luffa_config_default(uint32_t policy) {
     luffa_config config = {.shards = 8};
     config.policy = (luffa_policy){
@@ -289,14 +311,17 @@ luffa_status luffa_insert(luffa_cache *cache, uint64_t now, const void *key, siz
 luffa_status luffa_insert_entry(luffa_cache *cache, uint64_t now, const void *key, size_t key_len, const void *value,
                                 size_t value_len, const luffa_terms *terms, luffa_entry *entry) {
     luffa_record record;
+    luffa_entry unwanted = {0};
     uint64_t hash = hash_of(cache, key, key_len);
     struct slot *slot = slot_of(cache, hash);
     lock(slot);
     luffa_status status =
         luffa_shard_insert_entry(&slot->shard, now, hash, key, key_len, value, value_len, terms, &record);
     if (status == LUFFA_OK)
-        give(slot, &record, entry);
-    return inserted(slot, status);
+        give(slot, &record, entry == NULL ? &unwanted : entry);
+    inserted(slot, status);
+    luffa_release(&unwanted); /* a phantom leaves after it was told as removed */
+    return status;
 }
 
 /* Counts a lookup. The lock is held. */
@@ -386,7 +411,7 @@ static luffa_status lead(struct slot *slot, uint64_t now, uint64_t hash, const v
         status =
             luffa_shard_complete(&slot->shard, made.now, hash, key, key_len, fetch, made.value, made.value_len, &terms);
     }
-    if (status != LUFFA_OK && status != LUFFA_MISSING)
+    if (status != LUFFA_OK && status != LUFFA_MISSING) /* the shard has room for the key since the fetch began */
         luffa_shard_cancel(&slot->shard, hash, key, key_len, fetch);
     wake(slot);
     status = take_answer(slot, number, entry);

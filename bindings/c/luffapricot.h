@@ -5,11 +5,21 @@
  * which has the locks, the hash and the calls below, is not.
  *
  * Times. `now` and `expires` are in a unit of the caller's choice. Pass 0 as `now` if nothing expires. Time may go
- * back. Weights. A record counts its weight against the capacity: 1, the bytes of its value, or any other number. Keys
- * and values. Any bytes of any length, 0 included; a pointer may be NULL if its length is 0. Both are copied. Threads.
- * Any thread may make any call at any time, except luffa_destroy, which must be the last call for a cache. Undefined: a
- * cache or an entry that is used after luffa_destroy, an entry that is copied and released twice, and a call from a
- * signal handler or from the child of a fork in a process with threads.
+ * back.
+ *
+ * Weights. A record counts its weight against the capacity: 1, the bytes of its value, or any other number.
+ *
+ * Keys and values. Any bytes of any length, 0 included. Both are copied. A pointer may be NULL if its length is 0, also
+ * one that the cache gives; no other may, unless its call says so.
+ *
+ * Threads. Any thread may make any call at any time, except luffa_destroy, which must be the last call for a cache.
+ *
+ * Callbacks. They are called with no lock held, so they may call the cache. Each must return: no exception, no longjmp,
+ * no end of its thread.
+ *
+ * Undefined. A cache or an entry that is used after luffa_destroy; an entry that is copied and released twice; a key,
+ * a value or a structure that overlaps what the same call writes; a call from a signal handler, from a thread that is
+ * cancelled meanwhile, or from the child of a fork in a process with threads.
  *
  * Nothing here aborts. A call that returns a status changes nothing unless it returns LUFFA_OK or says otherwise.
  */
@@ -23,7 +33,9 @@
 extern "C" {
 #endif
 
-/* What a call did. The numbers from 1 to 17 are the refusals F1 to F17 of the cache. */
+/* What a call did. The numbers from 1 to 17 are the refusals F1 to F17 of the cache; no call returns one that isn't
+ * here.
+ */
 typedef uint32_t luffa_status;
 
 enum {
@@ -69,12 +81,12 @@ typedef struct luffa_policy {
     luffa_ratio ghost_queue;        /* S3-FIFO: any */
 } luffa_policy;
 
-/* Gives a key its hash. Equal keys must have equal hashes. It is called with no lock held. */
+/* Gives a key its hash. Equal keys must have equal hashes. */
 typedef uint64_t (*luffa_hash)(void *context, const void *key, size_t key_len);
 
 /*
- * Is told of a record that left, by the thread whose call made it leave, before that call returns and with no lock
- * held, so it may call the cache. If there was no memory to tell it, it is told after a later call of any thread.
+ * Is told of a record that left, by the thread whose call made it leave, before that call returns. If there was no
+ * memory to tell it, it is told after a later call of any thread.
  */
 typedef void (*luffa_listener)(void *context, int event, const void *key, size_t key_len, const void *value,
                                size_t value_len);
@@ -127,15 +139,15 @@ typedef struct luffa_made {
     size_t weight;              /* 1 if the callback leaves it */
     uint64_t expires;           /* 0, never, if the callback leaves it */
     uint64_t now;               /* that of the call if the callback leaves it */
-    void (*free_value)(void *); /* called with `value` after it was copied, unless NULL */
+    void (*free_value)(void *); /* called with `value` in the end, even if there was no value to copy, unless NULL */
 } luffa_made;
 
-/* Makes the value of a key, with no lock held. Returns 0, or another number if there is no value. */
+/* Makes the value of a key. Returns 0, or another number if there is no value. */
 typedef int (*luffa_make)(void *context, const void *key, size_t key_len, luffa_made *made);
 
 typedef struct luffa_stats {
     uint64_t usage;   /* the sum of the weights, or UINT64_MAX if it is more */
-    uint64_t entries; /* how many records there are */
+    uint64_t entries; /* how many records there are, also expired ones that have not left */
     uint64_t hits;    /* lookups that found their key */
     uint64_t misses;
 } luffa_stats;
@@ -143,21 +155,24 @@ typedef struct luffa_stats {
 /* The version, and whether the library was made of the proved archive: "0.1.0 (proved)" or "0.1.0 (unproved)". */
 const char *luffa_version(void);
 
+/* What a status means, in a few words. Never NULL. */
+const char *luffa_strerror(luffa_status status);
+
 /* A configuration of this policy with its defaults, 8 shards and the capacity 0. */
 luffa_config luffa_config_default(uint32_t policy);
 
 /* Creates a cache. F1 to F7, or LUFFA_NO_POLICY; then *cache is NULL. */
 luffa_status luffa_create(const luffa_config *config, luffa_cache **cache);
 
-/* Tells the listener that all records leave (LUFFA_CLEAR), and frees the cache. NULL is allowed. No entry is left held.
- */
+/* Tells the listener that all records leave (LUFFA_CLEAR), and frees the cache with the entries that are still held.
+ * The listener may not insert any more. NULL is allowed. */
 void luffa_destroy(luffa_cache *cache);
 
 /* Inserts a record, which replaces that of its key. It never expires if `expires` is 0. F7 to F10. */
 luffa_status luffa_insert(luffa_cache *cache, uint64_t now, const void *key, size_t key_len, const void *value,
                           size_t value_len, size_t weight, uint64_t expires);
 
-/* Like luffa_insert, and returns an entry of the record. */
+/* Like luffa_insert, and returns an entry of the record, unless `entry` is NULL. */
 luffa_status luffa_insert_entry(luffa_cache *cache, uint64_t now, const void *key, size_t key_len, const void *value,
                                 size_t value_len, const luffa_terms *terms, luffa_entry *entry);
 
@@ -168,25 +183,26 @@ luffa_status luffa_insert_entry(luffa_cache *cache, uint64_t now, const void *ke
 luffa_status luffa_get(luffa_cache *cache, uint64_t now, const void *key, size_t key_len, void *buffer,
                        size_t buffer_len, size_t *value_len);
 
-/* Returns an entry of the key's record. LUFFA_MISSING, F7 or F9, and then the entry is as it was. */
+/* Returns an entry of the key's record. LUFFA_MISSING, F7 or F9. */
 luffa_status luffa_get_entry(luffa_cache *cache, uint64_t now, const void *key, size_t key_len, luffa_entry *entry);
 
 /* Releases an entry and zeroes it. An entry of zeros is allowed. */
 void luffa_release(luffa_entry *entry);
 
 /*
- * Returns an entry of the key's record, or lets `make` make its value and inserts it. Of several callers that ask for
- * the same missing key one runs `make`, and the others wait for its result. `make` must not ask for the same key
- * itself. LUFFA_CANCELLED for all of them if `make` returned another number than 0, or there was no memory for its
- * value; F7 to F10.
+ * Returns an entry of the key's record, unless `entry` is NULL, or lets `make` make its value and inserts it. Of
+ * several callers that ask for the same missing key one runs `make`, and the others wait for its result. If `make` asks
+ * for the same key itself, it waits forever. If the key is inserted meanwhile, that record is the result for all of
+ * them. LUFFA_CANCELLED for all if `make` returned another number than 0, or there was no memory for its value; F7 to
+ * F10.
  */
 luffa_status luffa_get_or_insert(luffa_cache *cache, uint64_t now, const void *key, size_t key_len, luffa_make make,
                                  void *context, luffa_entry *entry);
 
-/* Removes the key's record. LUFFA_MISSING, F7 or F9. */
+/* Removes the key's record, even if it is expired. LUFFA_MISSING, F7 or F9. */
 luffa_status luffa_remove(luffa_cache *cache, const void *key, size_t key_len);
 
-/* Removes the key's record and returns an entry of it. LUFFA_MISSING, F7 or F9. */
+/* Like luffa_remove, and returns an entry of the record, unless `entry` is NULL. */
 luffa_status luffa_remove_entry(luffa_cache *cache, const void *key, size_t key_len, luffa_entry *entry);
 
 /* LUFFA_OK if a lookup would find the key. It doesn't count as a use. LUFFA_MISSING or F7. */

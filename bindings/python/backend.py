@@ -45,7 +45,7 @@ def build_wheel(wheel_directory: str, config_settings: object = None, metadata_d
         files = {f"{NAME}/{it.name}": it.read_bytes() for it in sources}
         extension = compile_extension(Path(folder))
         files[f"{NAME}/{extension.name}"] = extension.read_bytes()
-    metadata = f"Metadata-Version: 2.1\nName: {NAME}\nVersion: {VERSION}\nRequires-Python: >=3.8\n"
+    metadata = f"Metadata-Version: 2.1\nName: {NAME}\nVersion: {VERSION}\nRequires-Python: >=3.9\n"
     files[f"{INFO}/METADATA"] = metadata.encode()
     about = f"Wheel-Version: 1.0\nGenerator: {NAME}\nRoot-Is-Purelib: false\nTag: {tag}\n"
     files[f"{INFO}/WHEEL"] = about.encode()

@@ -35,6 +35,9 @@ static void creating(void) {
     luffa_entry nothing = {0};
     luffa_release(&nothing);
     CHECK(strstr(luffa_version(), "proved") != NULL);
+    CHECK(strcmp(luffa_strerror(LUFFA_NO_MEMORY), "out of memory") == 0);
+    for (luffa_status status = 0; status < 300; status++)
+        CHECK(*luffa_strerror(status) != 0);
 }
 
 static void one_record(luffa_cache *cache) {
@@ -104,6 +107,10 @@ static void expiry(luffa_cache *cache) {
     CHECK(luffa_insert(cache, 1u << 31, "e", 1, "x", 1, 1, (uint64_t)1 << 40) == LUFFA_OK);
     CHECK(luffa_get(cache, ((uint64_t)1 << 40) - 1, "e", 1, NULL, 0, &len) == LUFFA_OK);
     CHECK(luffa_get(cache, (uint64_t)1 << 40, "e", 1, NULL, 0, &len) == LUFFA_MISSING);
+    CHECK(luffa_entries(cache) == 2 && luffa_remove(cache, "e", 1) == LUFFA_OK && luffa_entries(cache) == 1);
+    CHECK(luffa_insert(cache, UINT64_MAX - 1, "e", 1, "x", 1, 1, UINT64_MAX) == LUFFA_OK);
+    CHECK(luffa_contains(cache, UINT64_MAX - 1, "e", 1) == LUFFA_OK);
+    CHECK(luffa_contains(cache, UINT64_MAX, "e", 1) == LUFFA_MISSING);
     CHECK(luffa_clear(cache) == LUFFA_OK && luffa_entries(cache) == 0 && luffa_usage(cache) == 0);
 }
 
@@ -154,6 +161,11 @@ static void weights(uint32_t policy) {
         luffa_release(&held);
     }
     luffa_destroy(cache);
+    cache = created(policy, 10, 4);
+    for (uint32_t i = 0; i < 40; i++) /* each shard has one, whose sum is too much */
+        CHECK(luffa_insert(cache, 0, &i, 4, NULL, 0, SIZE_MAX / 2, 0) == LUFFA_OK);
+    CHECK(luffa_usage(cache) == UINT64_MAX && luffa_entries(cache) == 4);
+    luffa_destroy(cache);
 }
 
 static void bulk(uint32_t policy) {
@@ -181,16 +193,58 @@ static void bulk(uint32_t policy) {
     luffa_destroy(cache);
 }
 
+static uint64_t number_of(void *context, const void *key, size_t key_len) {
+    uint32_t number;
+    (void)context;
+    memcpy(&number, key, key_len);
+    return number;
+}
+
+/* A cache that was created with one configuration and got another, after gets and inserts. */
+static luffa_cache *used(const luffa_policy *first, const luffa_policy *then) {
+    luffa_config config = {.policy = *first, .capacity = 80, .shards = 4, .hash = number_of};
+    luffa_cache *cache;
+    uint32_t state = 1;
+    CHECK(luffa_create(&config, &cache) == LUFFA_OK && luffa_reconfigure(cache, then) == LUFFA_OK);
+    for (int i = 0; i < 5000; i++) {
+        uint32_t key = (state >> 8) % 200;
+        size_t len;
+        key = (state >> 16) % (key + 1);
+        state = state * 1664525 + 1013904223;
+        if (luffa_get(cache, 0, &key, 4, NULL, 0, &len) == LUFFA_MISSING)
+            CHECK(luffa_insert(cache, 0, &key, 4, &key, 4, 1, 0) == LUFFA_OK);
+    }
+    return cache;
+}
+
+/* Each shard gets the configuration. */
+static void reconfiguring(void) {
+    luffa_policy small = luffa_config_default(LUFFA_S3FIFO).policy, large = small;
+    large.small_queue = (luffa_ratio){9, 10};
+    luffa_cache *caches[] = {used(&small, &small), used(&large, &small), used(&large, &large)};
+    size_t differ = 0, other = 0;
+    for (uint32_t key = 0; key < 200; key++) {
+        luffa_status wanted = luffa_contains(caches[0], 0, &key, 4);
+        differ += luffa_contains(caches[1], 0, &key, 4) != wanted;
+        other += luffa_contains(caches[2], 0, &key, 4) != wanted;
+    }
+    CHECK(differ == 0 && other > 0);
+    for (int i = 0; i < 3; i++)
+        luffa_destroy(caches[i]);
+}
+
 /* What left, by event, and whether each left with its own value. */
 struct heard {
     luffa_cache *cache;
     size_t counts[4];
+    int last;
     size_t wrong;
 };
 
 static void hear(void *context, int event, const void *key, size_t key_len, const void *value, size_t value_len) {
     struct heard *heard = context;
     heard->counts[event]++;
+    heard->last = event;
     heard->wrong += key_len != 4 || value_len != 4 || memcmp(key, value, 4) != 0;
     if (heard->cache != NULL) /* no lock is held */
         heard->wrong += luffa_contains(heard->cache, 0, "?", 1) != LUFFA_MISSING;
@@ -218,6 +272,8 @@ static void listening(uint32_t policy) {
     evicted = heard.counts[LUFFA_EVICT];
     luffa_release(&entry);
     CHECK(heard.counts[LUFFA_EVICT] == evicted + 1);
+    CHECK(luffa_insert_entry(heard.cache, 0, &last, 4, &last, 4, &phantom, NULL) == LUFFA_OK);
+    CHECK(heard.counts[LUFFA_EVICT] == evicted + 2 && heard.last == LUFFA_EVICT);
     luffa_cache *cache = heard.cache;
     heard.cache = NULL;
     luffa_destroy(cache);
@@ -235,6 +291,25 @@ static int make(void *context, const void *key, size_t key_len, luffa_made *made
     return 0;
 }
 
+static void count_call(void *context) { ++*(int *)context; }
+
+/* Makes an empty value, or none, whose address is the context. */
+static int make_nothing(void *context, const void *key, size_t key_len, luffa_made *made) {
+    (void)key_len;
+    made->value = context;
+    made->free_value = count_call;
+    return *(const char *)key == 'f';
+}
+
+/* Makes a value that weighs 2. */
+static int make_heavy(void *context, const void *key, size_t key_len, luffa_made *made) {
+    (void)context;
+    made->value = key;
+    made->value_len = key_len;
+    made->weight = 2;
+    return 0;
+}
+
 static int make_and_insert(void *context, const void *key, size_t key_len, luffa_made *made) {
     made->value = "made";
     made->value_len = 4;
@@ -243,19 +318,111 @@ static int make_and_insert(void *context, const void *key, size_t key_len, luffa
 
 static void making(luffa_cache *cache) {
     luffa_entry entry;
+    luffa_stats before = luffa_get_stats(cache);
     int runs = 0;
     CHECK(luffa_get_or_insert(cache, 0, "key", 3, make, &runs, &entry) == LUFFA_OK && runs == 1);
     CHECK(entry.value_len == 3 && memcmp(entry.value, "key", 3) == 0);
     luffa_release(&entry);
     CHECK(luffa_get_or_insert(cache, 49, "key", 3, make, &runs, &entry) == LUFFA_OK && runs == 1);
     luffa_release(&entry);
+    luffa_stats after = luffa_get_stats(cache);
+    CHECK(after.hits == before.hits + 1 && after.misses == before.misses + 1);
     CHECK(luffa_get_or_insert(cache, 50, "key", 3, make, &runs, NULL) == LUFFA_OK && runs == 2);
     CHECK(luffa_get_or_insert(cache, 0, "none", 4, make, &runs, &entry) == LUFFA_CANCELLED && runs == 3);
     CHECK(luffa_contains(cache, 0, "none", 4) == LUFFA_MISSING);
     CHECK(luffa_get_or_insert(cache, 0, "both", 4, make_and_insert, cache, &entry) == LUFFA_OK);
     CHECK(entry.value_len == 8 && memcmp(entry.value, "inserted", 8) == 0); /* the insert ended the fetch */
     luffa_release(&entry);
+    runs = 0;
+    CHECK(luffa_get_or_insert(cache, 0, "empty", 5, make_nothing, &runs, &entry) == LUFFA_OK && runs == 1);
+    CHECK(entry.value_len == 0 && entry.weight == 1);
+    luffa_release(&entry);
+    CHECK(luffa_get_or_insert(cache, 0, "fails", 5, make_nothing, &runs, NULL) == LUFFA_CANCELLED && runs == 2);
     CHECK(luffa_clear(cache) == LUFFA_OK);
+    CHECK(luffa_get_or_insert(cache, 0, "heavy", 5, make_heavy, NULL, &entry) == LUFFA_OK && entry.weight == 2);
+    luffa_release(&entry);
+    CHECK(luffa_usage(cache) == 2 && luffa_clear(cache) == LUFFA_OK);
+}
+
+/* Makes a value when it is 100. */
+static int make_late(void *context, const void *key, size_t key_len, luffa_made *made) {
+    (void)context;
+    made->value = key;
+    made->value_len = key_len;
+    made->now = 100;
+    return 0;
+}
+
+/* What is expired when the value is made leaves first. */
+static void making_late(uint32_t policy) {
+    luffa_cache *cache = created(policy, 2, 1);
+    CHECK(put(cache, "old", "x") == LUFFA_OK);
+    CHECK(luffa_insert(cache, 0, "expires", 7, "x", 1, 1, 60) == LUFFA_OK);
+    CHECK(luffa_get_or_insert(cache, 0, "late", 4, make_late, NULL, NULL) == LUFFA_OK);
+    CHECK(luffa_contains(cache, 0, "expires", 7) == LUFFA_MISSING && has(cache, "old", "x") &&
+          has(cache, "late", "late"));
+    luffa_destroy(cache);
+}
+
+/* Inserts a record for each that leaves, up to a number. */
+struct echo {
+    luffa_cache *cache;
+    uint32_t inserted;
+    uint32_t told;
+};
+
+static void echo(void *context, int event, const void *key, size_t key_len, const void *value, size_t value_len) {
+    struct echo *echo = context;
+    uint32_t bytes;
+    memcpy(&bytes, key, 4);
+    CHECK(event == LUFFA_EVICT && key_len == 4 && value_len == 4 && memcmp(value, &bytes, 4) == 0);
+    echo->told++;
+    if (echo->inserted < 1000) {
+        bytes = echo->inserted++;
+        CHECK(luffa_insert(echo->cache, 0, &bytes, 4, &bytes, 4, 1, 0) == LUFFA_OK);
+    }
+}
+
+/* The listener calls the cache, which tells it again, one call in the other; and of more than one batch. */
+static void echoing(uint32_t policy) {
+    struct echo heard = {.inserted = 500};
+    luffa_config config = luffa_config_default(policy);
+    config.capacity = 100;
+    config.shards = 2;
+    config.listener = echo;
+    config.listener_context = &heard;
+    CHECK(luffa_create(&config, &heard.cache) == LUFFA_OK);
+    for (uint32_t i = 0; i < 500; i++)
+        CHECK(luffa_insert(heard.cache, 0, &i, 4, &i, 4, 1, 0) == LUFFA_OK);
+    CHECK(luffa_resize(heard.cache, 0, 10) == LUFFA_OK && luffa_evict_all(heard.cache, 0) == LUFFA_OK);
+    CHECK(heard.inserted == 1000 && heard.told + luffa_entries(heard.cache) == 1000 && luffa_usage(heard.cache) <= 10);
+    CHECK(luffa_evict_all(heard.cache, 0) == LUFFA_OK && heard.told == 1000);
+    luffa_destroy(heard.cache);
+}
+
+/* The hash without a callback: each byte of a key counts, so the keys don't crowd a shard, and each cache has its own.
+ */
+static void hashing(void) {
+    unsigned char key[40];
+    for (size_t len = 1; len <= sizeof key; len += len < 18 ? 1 : 5)
+        for (size_t at = 0; at < len; at++) {
+            luffa_cache *cache = created(LUFFA_FIFO, 128, 8);
+            memset(key, 'k', sizeof key);
+            for (key[at] = 0; key[at] < 64; key[at]++)
+                CHECK(luffa_insert(cache, 0, key, len, NULL, 0, 1, 0) == LUFFA_OK);
+            CHECK(luffa_entries(cache) > 48);
+            luffa_destroy(cache);
+        }
+    luffa_cache *caches[] = {created(LUFFA_FIFO, 100, 8), created(LUFFA_FIFO, 100, 8)};
+    size_t differ = 0;
+    for (uint32_t i = 0; i < 1000; i++)
+        for (int which = 0; which < 2; which++)
+            CHECK(luffa_insert(caches[which], 0, &i, 4, NULL, 0, 1, 0) == LUFFA_OK);
+    for (uint32_t i = 0; i < 1000; i++)
+        differ += luffa_contains(caches[0], 0, &i, 4) != luffa_contains(caches[1], 0, &i, 4);
+    CHECK(differ > 0);
+    luffa_destroy(caches[0]);
+    luffa_destroy(caches[1]);
 }
 
 static uint64_t one(void *context, const void *key, size_t key_len) {
@@ -286,6 +453,8 @@ static void colliding(uint32_t policy) {
 
 int main(void) {
     creating();
+    hashing();
+    reconfiguring();
     for (uint32_t policy = LUFFA_FIFO; policy <= LUFFA_SIEVE; policy++) {
         for (size_t shards = 1; shards <= 3; shards++) {
             luffa_cache *cache = created(policy, 300, shards);
@@ -300,6 +469,8 @@ int main(void) {
         weights(policy);
         bulk(policy);
         listening(policy);
+        echoing(policy);
+        making_late(policy);
         colliding(policy);
         if (failures != 0) {
             fprintf(stderr, "with %s\n", POLICIES[policy]);

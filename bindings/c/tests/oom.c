@@ -1,18 +1,22 @@
 /*
  * Each request for memory is refused in turn: build it with -Wl,--wrap=malloc,--wrap=realloc,--wrap=calloc,
- * --wrap=aligned_alloc. Every call then returns what it may, nothing is lost, and the cache goes on.
+ * --wrap=aligned_alloc,--wrap=free. Every call then returns what it may, nothing is lost, and the cache goes on. And
+ * the same calls again and again keep no more memory.
  */
 #include "check.h"
+#include <malloc.h>
 
 void *__real_malloc(size_t size);
 void *__real_calloc(size_t count, size_t size);
 void *__real_realloc(void *block, size_t size);
 void *__real_aligned_alloc(size_t align, size_t size);
+void __real_free(void *block);
 
 /* How many requests are granted before all are refused, or -1; and whether only one is refused. */
 static long granted = -1;
 static int only_one;
 static long refusals;
+static size_t bytes; /* that are in use */
 
 static int is_refused(void) {
     if (granted < 0)
@@ -27,32 +31,61 @@ static int is_refused(void) {
     return 1;
 }
 
-void *__wrap_malloc(size_t size) { return is_refused() ? NULL : __real_malloc(size); }
-void *__wrap_calloc(size_t count, size_t size) { return is_refused() ? NULL : __real_calloc(count, size); }
-void *__wrap_realloc(void *block, size_t size) { return is_refused() ? NULL : __real_realloc(block, size); }
-void *__wrap_aligned_alloc(size_t align, size_t size) {
-    return is_refused() ? NULL : __real_aligned_alloc(align, size);
+static void *counted(void *block) {
+    bytes += malloc_usable_size(block);
+    return block;
 }
 
-enum { KEYS = 60 };
+void *__wrap_malloc(size_t size) { return is_refused() ? NULL : counted(__real_malloc(size)); }
+void *__wrap_calloc(size_t count, size_t size) { return is_refused() ? NULL : counted(__real_calloc(count, size)); }
+void *__wrap_aligned_alloc(size_t align, size_t size) {
+    return is_refused() ? NULL : counted(__real_aligned_alloc(align, size));
+}
+void *__wrap_realloc(void *block, size_t size) {
+    size_t old = malloc_usable_size(block);
+    void *moved = is_refused() ? NULL : counted(__real_realloc(block, size));
+    bytes -= moved != NULL ? old : 0;
+    return moved;
+}
+void __wrap_free(void *block) {
+    bytes -= malloc_usable_size(block);
+    __real_free(block);
+}
+
+enum { KEYS = 60, LONG = 40 };
+
+/* How long keys are: 8 needs no memory, LONG does. */
+static size_t key_len = 8;
+
+static const unsigned char *spelled(uint64_t number) {
+    static unsigned char bytes[LONG];
+    memcpy(bytes, &number, 8);
+    return bytes;
+}
 
 /* How many records of each key were inserted and not told to have left. */
 static int are_in[KEYS + 1];
 static long told;
 
-static void hear(void *context, int event, const void *key, size_t key_len, const void *value, size_t value_len) {
+static void hear(void *context, int event, const void *key, size_t len, const void *value, size_t value_len) {
     uint64_t number;
     (void)context;
-    CHECK(key_len == 8 && value_len == 8 && memcmp(key, value, 8) == 0);
+    CHECK(len == key_len && value_len == 8 && memcmp(key, value, 8) == 0);
     memcpy(&number, key, 8);
     CHECK(event <= LUFFA_CLEAR && are_in[number]-- > 0);
     told++;
 }
 
-static int make(void *context, const void *key, size_t key_len, luffa_made *made) {
+static luffa_cache *current;
+
+/* Makes the key as its value, or nothing without a context. The shard is asked for a shorter key meanwhile. */
+static int make(void *context, const void *key, size_t len, luffa_made *made) {
+    CHECK(luffa_contains(current, 0, "?", 1) == LUFFA_MISSING);
+    if (context == NULL)
+        return 1;
     *(int *)context = 1;
     made->value = key;
-    made->value_len = key_len;
+    made->value_len = len < 8 ? len : 8;
     return 0;
 }
 
@@ -60,39 +93,45 @@ static int is_fine(luffa_status status) { return status == LUFFA_OK || status ==
 
 /* Inserts, lookups and bulk calls over KEYS keys. */
 static void calls(luffa_cache *cache) {
+    current = cache;
     luffa_entry entry;
     luffa_terms phantom = {.weight = 1, .flags = LUFFA_PHANTOM};
     for (uint64_t key = 0; key < KEYS; key++) {
         uint64_t found = 0, asked = key / 2;
         size_t len;
-        luffa_status status = luffa_insert(cache, key, &key, 8, &key, 8, 1, key % 3 == 0 ? key + 5 : 0);
+        luffa_status status = luffa_insert(cache, key, spelled(key), key_len, &key, 8, 1, key % 3 == 0 ? key + 5 : 0);
         CHECK(is_fine(status));
         if (status == LUFFA_OK)
             are_in[key]++;
-        status = luffa_get(cache, key, &asked, 8, &found, 8, &len);
+        status = luffa_get(cache, key, spelled(asked), key_len, &found, 8, &len);
         CHECK(is_fine(status) || status == LUFFA_MISSING);
         CHECK(status != LUFFA_OK || (len == 8 && found == asked));
     }
     for (uint64_t key = 0; key < KEYS; key += 7) {
         int is_made = 0;
-        luffa_status status = luffa_get_or_insert(cache, KEYS, &key, 8, make, &is_made, &entry);
+        luffa_status status = luffa_get_or_insert(cache, KEYS, spelled(key), key_len, make, &is_made, &entry);
         CHECK(is_fine(status) || status == LUFFA_CANCELLED);
         if (status == LUFFA_OK) {
             are_in[key] += is_made;
             luffa_release(&entry);
         }
-        status = luffa_remove(cache, &key, 8);
+        status = luffa_remove(cache, spelled(key), key_len);
         CHECK(is_fine(status) || status == LUFFA_MISSING);
+        status = luffa_get_or_insert(cache, KEYS, spelled(key), key_len, make, NULL, NULL);
+        CHECK(is_fine(status) || status == LUFFA_CANCELLED);
     }
     uint64_t last = KEYS;
     are_in[last] += 2; /* a phantom is told twice: when it is inserted and when it leaves */
-    if (luffa_insert_entry(cache, 0, &last, 8, &last, 8, &phantom, &entry) == LUFFA_OK)
+    if (luffa_insert_entry(cache, 0, spelled(last), key_len, &last, 8, &phantom, &entry) == LUFFA_OK)
         luffa_release(&entry);
     else
         are_in[last] -= 2;
-    CHECK(is_fine(luffa_resize(cache, KEYS, 10)));
-    CHECK(is_fine(luffa_evict_all(cache, KEYS)));
-    CHECK(is_fine(luffa_clear(cache)));
+    luffa_status status = luffa_resize(cache, KEYS, 10);
+    CHECK(status == LUFFA_OK ? luffa_usage(cache) <= 10 : status == LUFFA_NO_MEMORY);
+    status = luffa_evict_all(cache, KEYS);
+    CHECK(status == LUFFA_OK ? luffa_entries(cache) == 0 : status == LUFFA_NO_MEMORY);
+    status = luffa_clear(cache);
+    CHECK(status == LUFFA_OK ? luffa_entries(cache) == 0 : status == LUFFA_NO_MEMORY);
 }
 
 static void run(uint32_t policy, long fail, int is_heard) {
@@ -114,9 +153,9 @@ static void run(uint32_t policy, long fail, int is_heard) {
     calls(cache);
     granted = -1; /* from here on there is memory */
     uint64_t key = 7, found = 0;
-    CHECK(luffa_insert(cache, 0, &key, 8, &key, 8, 1, 0) == LUFFA_OK);
+    CHECK(luffa_insert(cache, 0, spelled(key), key_len, &key, 8, 1, 0) == LUFFA_OK);
     are_in[key]++;
-    CHECK(luffa_get(cache, 0, &key, 8, &found, 8, &len) == LUFFA_OK && found == key);
+    CHECK(luffa_get(cache, 0, spelled(key), key_len, &found, 8, &len) == LUFFA_OK && found == key);
     CHECK(luffa_resize(cache, 0, 10) == LUFFA_OK && luffa_clear(cache) == LUFFA_OK);
     CHECK(luffa_usage(cache) == 0 && luffa_entries(cache) == 0);
     for (size_t i = 0; is_heard && i <= KEYS; i++)
@@ -124,13 +163,35 @@ static void run(uint32_t policy, long fail, int is_heard) {
     luffa_destroy(cache);
 }
 
+/* Whether the calls keep memory. */
+static void repeat(uint32_t policy) {
+    luffa_config config = luffa_config_default(policy);
+    luffa_cache *cache;
+    size_t before = bytes, first = 0;
+    config.capacity = 20;
+    config.listener = hear;
+    CHECK(luffa_create(&config, &cache) == LUFFA_OK);
+    for (int turn = 0; turn < 50; turn++) {
+        calls(cache);
+        if (turn == 9)
+            first = bytes;
+    }
+    CHECK(bytes <= first);
+    luffa_destroy(cache);
+    CHECK(bytes == before);
+}
+
 int main(void) {
-    for (uint32_t policy = LUFFA_FIFO; policy <= LUFFA_SIEVE; policy++)
+    for (uint32_t policy = LUFFA_FIFO; policy <= LUFFA_SIEVE; policy++) {
+        key_len = policy % 2 == 0 ? 8 : LONG;
+        repeat(policy);
         for (int how = 0; how < 4; how++)
-            for (long fail = 0; fail < 400 && failures == 0; fail++) {
+            for (long fail = 0, before = -1; refusals != before && failures == 0; fail++) {
+                before = refusals;
                 only_one = how & 1;
                 run(policy, fail, how & 2);
             }
+    }
     printf("%ld requests refused, %ld records told\n", refusals, told);
     return ended("oom");
 }

@@ -110,11 +110,17 @@ static void *work(void *context) {
                 hold(&held[noise % HELD], entry, key);
         } else if (call < 900) {
             key &= ~1u;
-            luffa_status status = luffa_get_or_insert(cache, 0, &key, sizeof key, make, &value, &entry);
-            if (status == LUFFA_OK)
+            luffa_entry *wanted = noise % 4 == 0 ? NULL : &entry;
+            luffa_status status = luffa_get_or_insert(cache, 0, &key, sizeof key, make, &value, wanted);
+            if (status == LUFFA_OK && wanted != NULL)
                 hold(&held[noise % HELD], entry, key);
             else
-                wrong += status != LUFFA_CANCELLED;
+                wrong += status != LUFFA_OK && status != LUFFA_CANCELLED;
+        } else if (call < 910) { /* many ask for these keys, whose values take a while */
+            key = 64 * (1 + noise % 3);
+            luffa_remove(cache, &key, sizeof key);
+            luffa_status status = luffa_get_or_insert(cache, 0, &key, sizeof key, make, &value, NULL);
+            wrong += status != LUFFA_OK && status != LUFFA_CANCELLED;
         } else if (call < 960) {
             luffa_remove(cache, &key, sizeof key);
         } else if (call < 990) {
@@ -156,9 +162,44 @@ static void run(uint32_t policy, long threads, double seconds, int is_heard) {
     luffa_destroy(cache);
 }
 
+static atomic_int has_ended;
+
+static void *wait_for_it(void *context) {
+    (void)context;
+    luffa_entry entry;
+    CHECK(luffa_get_or_insert(cache, 0, "key", 3, NULL, NULL, &entry) == LUFFA_OK);
+    CHECK(entry.value_len == 8 && memcmp(entry.value, "inserted", 8) == 0);
+    luffa_release(&entry);
+    has_ended = 1;
+    return NULL;
+}
+
+/* Inserts the key while another thread waits for it, which then waits no more. */
+static int make_for_another(void *context, const void *key, size_t key_len, luffa_made *out) {
+    (void)out;
+    CHECK(pthread_create(context, NULL, wait_for_it, NULL) == 0);
+    while (luffa_get_stats(cache).misses < 2)
+        nanosleep(&(struct timespec){0, 1000000}, NULL);
+    nanosleep(&(struct timespec){0, 20000000}, NULL);
+    CHECK(luffa_insert(cache, 0, key, key_len, "inserted", 8, 1, 0) == LUFFA_OK);
+    for (int i = 0; i < 5000 && !has_ended; i++)
+        nanosleep(&(struct timespec){0, 1000000}, NULL);
+    CHECK(has_ended);
+    return 1;
+}
+
+static void insert_wakes(void) {
+    pthread_t waiter;
+    cache = created(LUFFA_LRU, 10, 1);
+    CHECK(luffa_get_or_insert(cache, 0, "key", 3, make_for_another, &waiter, NULL) == LUFFA_OK);
+    pthread_join(waiter, NULL);
+    luffa_destroy(cache);
+}
+
 int main(int argc, char **argv) {
     long threads = argc > 1 ? strtol(argv[1], NULL, 10) : 8;
     double seconds = argc > 2 ? strtod(argv[2], NULL) : 10;
+    insert_wakes();
     for (uint32_t policy = LUFFA_FIFO; policy <= LUFFA_SIEVE; policy++)
         run(policy, threads < MOST_THREADS ? threads : MOST_THREADS, seconds / 5, policy % 2 == 0);
     CHECK(wrong == 0 && made > 0 && left > 0);

@@ -81,6 +81,7 @@ pub struct luffa_stats {
 
 unsafe extern "C" {
     pub fn luffa_version() -> *const c_char;
+    pub fn luffa_strerror(status: u32) -> *const c_char;
     pub fn luffa_config_default(policy: u32) -> luffa_config;
     pub fn luffa_create(config: *const luffa_config, cache: *mut *mut luffa_cache) -> u32;
     pub fn luffa_destroy(cache: *mut luffa_cache);

@@ -14,6 +14,7 @@
 //! ```
 #![deny(unsafe_op_in_unsafe_fn)]
 
+use std::any::Any;
 use std::ffi::{c_int, c_void, CStr};
 use std::fmt;
 use std::marker::PhantomData;
@@ -75,20 +76,50 @@ impl Error {
 
 impl fmt::Display for Error {
     fn fmt(&self, f: &mut fmt::Formatter<'_>) -> fmt::Result {
-        let why = match self.number {
-            1 => "the cache has no shards",
-            7 => "out of memory",
-            8 => "the weights would overflow",
-            9 => "too many entries of a record",
-            10 => "no number is left",
-            15 => "no value was made",
-            _ => "the cache refused the call",
-        };
-        write!(f, "{why} (F{})", self.number)
+        // SAFETY: it takes any number, and returns a string literal of C.
+        let why = unsafe { CStr::from_ptr(ffi::luffa_strerror(self.number)) };
+        write!(f, "{} (F{})", why.to_str().unwrap_or(""), self.number)
     }
 }
 
 impl std::error::Error for Error {}
+
+/// Why [`Cache::get_or_insert`] returned no entry.
+#[derive(Clone, Copy, Debug, PartialEq, Eq)]
+pub enum MakeError<E> {
+    /// The `make` of this call failed.
+    Make(E),
+    /// The cache refused the call; F15 if the `make` of another caller failed, for whose result this call waited.
+    Cache(Error),
+}
+
+impl<E: fmt::Display> fmt::Display for MakeError<E> {
+    fn fmt(&self, f: &mut fmt::Formatter<'_>) -> fmt::Result {
+        match self {
+            MakeError::Make(error) => write!(f, "no value was made: {error}"),
+            MakeError::Cache(error) => error.fmt(f),
+        }
+    }
+}
+
+impl<E: std::error::Error + 'static> std::error::Error for MakeError<E> {
+    fn source(&self) -> Option<&(dyn std::error::Error + 'static)> {
+        match self {
+            MakeError::Make(error) => Some(error),
+            MakeError::Cache(_) => None,
+        }
+    }
+}
+
+/// F15 in the place of the caller's own error.
+impl<E> From<MakeError<E>> for Error {
+    fn from(error: MakeError<E>) -> Self {
+        match error {
+            MakeError::Make(_) => Error { number: CANCELLED },
+            MakeError::Cache(error) => error,
+        }
+    }
+}
 
 /// The result of a call that the cache may refuse.
 pub type Result<T> = std::result::Result<T, Error>;
@@ -132,13 +163,25 @@ impl Default for Options {
 }
 
 type Listener = dyn Fn(Event, &[u8], &[u8]) + Send + Sync;
+type Weigher = dyn Fn(&[u8], &[u8]) -> usize + Send + Sync;
 
 /// Makes a [`Cache`].
 pub struct Builder {
     capacity: usize,
     shards: usize,
     policy: Policy,
+    ttl: Option<Duration>,
+    weigher: Option<Box<Weigher>>,
     listener: Option<Box<Listener>>,
+}
+
+impl fmt::Debug for Builder {
+    fn fmt(&self, f: &mut fmt::Formatter<'_>) -> fmt::Result {
+        let Builder { capacity, shards, policy, ttl, .. } = self;
+        let mut shown = f.debug_struct("Builder");
+        shown.field("capacity", capacity).field("shards", shards).field("policy", policy).field("ttl", ttl);
+        shown.finish_non_exhaustive()
+    }
 }
 
 impl Builder {
@@ -156,7 +199,30 @@ impl Builder {
         self
     }
 
-    /// Is told of each record that left, by its key and value, with no lock held.
+    /// How long lookups find a record that `insert` or `get_or_insert` inserts. The default is as long as it isn't
+    /// evicted.
+    #[must_use]
+    pub fn ttl(mut self, ttl: Duration) -> Self {
+        self.ttl = Some(ttl);
+        self
+    }
+
+    /// What a record that `insert` or `get_or_insert` inserts counts against the capacity, by its key and value. The
+    /// default is 1.
+    ///
+    /// ```
+    /// let cache = luffapricot::Cache::builder(1 << 20).weigher(|key, value| key.len() + value.len()).build()?;
+    /// cache.insert("key", "value")?;
+    /// assert_eq!(cache.stats().usage, 8);
+    /// # Ok::<(), luffapricot::Error>(())
+    /// ```
+    #[must_use]
+    pub fn weigher(mut self, weigher: impl Fn(&[u8], &[u8]) -> usize + Send + Sync + 'static) -> Self {
+        self.weigher = Some(Box::new(weigher));
+        self
+    }
+
+    /// Is told of each record that left, by its key and value, with no lock held. If it panics, the process aborts.
     #[must_use]
     pub fn listener(mut self, listener: impl Fn(Event, &[u8], &[u8]) + Send + Sync + 'static) -> Self {
         self.listener = Some(Box::new(listener));
@@ -181,7 +247,8 @@ impl Builder {
         // SAFETY: both pointers are of this frame; the listener lives as long as the cache.
         done(unsafe { ffi::luffa_create(&config, &mut raw) })?;
         let raw = NonNull::new(raw).ok_or(Error { number: 7 })?;
-        Ok(Cache { raw, begin: Instant::now(), has_expiry: AtomicBool::new(false), _listener: listener })
+        let (ttl, weigher) = (self.ttl, self.weigher);
+        Ok(Cache { raw, begin: Instant::now(), has_expiry: AtomicBool::new(false), ttl, weigher, _listener: listener })
     }
 }
 
@@ -226,11 +293,13 @@ pub struct Cache {
     raw: NonNull<ffi::luffa_cache>,
     begin: Instant,
     has_expiry: AtomicBool,
+    ttl: Option<Duration>,
+    weigher: Option<Box<Weigher>>,
     // `hear` has its address.
     _listener: Option<Box<Box<Listener>>>,
 }
 
-// SAFETY: luffapricot.h lets any thread make any call, and the listener is `Send + Sync`.
+// SAFETY: luffapricot.h lets any thread make any call, and the listener and the weigher are `Send + Sync`.
 unsafe impl Send for Cache {}
 // SAFETY: as above.
 unsafe impl Sync for Cache {}
@@ -239,7 +308,7 @@ impl Cache {
     /// A builder of a cache whose records may have this weight together.
     #[must_use]
     pub fn builder(capacity: usize) -> Builder {
-        Builder { capacity, shards: 8, policy: Policy::default(), listener: None }
+        Builder { capacity, shards: 8, policy: Policy::default(), ttl: None, weigher: None, listener: None }
     }
 
     /// Nanoseconds since the cache was made, or 0 as long as nothing expires.
@@ -249,6 +318,12 @@ impl Cache {
         } else {
             0
         }
+    }
+
+    /// How a record is inserted if the caller doesn't say it.
+    fn options(&self, key: &[u8], value: &[u8]) -> Options {
+        let weight = self.weigher.as_ref().map_or(1, |weigher| weigher(key, value));
+        Options { weight, ttl: self.ttl, low_priority: false }
     }
 
     fn terms(&self, options: &Options) -> ffi::luffa_terms {
@@ -264,12 +339,13 @@ impl Cache {
         terms
     }
 
-    /// Inserts a record of weight 1, which replaces that of its key.
+    /// Inserts a record, which replaces that of its key.
     ///
     /// # Errors
     /// F7 to F10. What was evicted by then stays evicted.
     pub fn insert(&self, key: impl AsRef<[u8]>, value: impl AsRef<[u8]>) -> Result<()> {
-        self.insert_with(key, value, &Options::default()).map(drop)
+        let (key, value) = (key.as_ref(), value.as_ref());
+        self.insert_with(key, value, &self.options(key, value)).map(drop)
     }
 
     /// Inserts a record with a weight and a time to live, and returns an entry of it.
@@ -315,14 +391,23 @@ impl Cache {
     }
 
     /// The entry of a key, whose value `make` makes if it is missing. Of several threads that ask for the same missing key
-    /// one runs its `make`, with no lock held, and the others wait. `make` must not ask for the same key.
+    /// one runs its `make`, with no lock held, and the others wait. If `make` asks for the same key, it waits forever.
     ///
     /// # Errors
-    /// F15 for all of them if `make` fails; F7 to F10.
+    /// What `make` returned; F15 for those that waited for it; F7 to F10.
     ///
     /// # Panics
     /// If `make` does.
-    pub fn get_or_insert<K, V, E, F>(&self, key: K, make: F) -> Result<Entry<'_>>
+    ///
+    /// ```
+    /// use luffapricot::{Cache, MakeError};
+    ///
+    /// let cache = Cache::builder(1000).build()?;
+    /// let found = cache.get_or_insert("number", || "x7".parse::<u32>().map(u32::to_le_bytes));
+    /// assert!(matches!(found, Err(MakeError::Make(error)) if error == "x7".parse::<u32>().unwrap_err()));
+    /// # Ok::<(), luffapricot::Error>(())
+    /// ```
+    pub fn get_or_insert<K, V, E, F>(&self, key: K, make: F) -> std::result::Result<Entry<'_>, MakeError<E>>
     where
         K: AsRef<[u8]>,
         V: AsRef<[u8]>,
@@ -330,7 +415,7 @@ impl Cache {
     {
         let key = key.as_ref();
         let mut entry = Entry::empty();
-        let mut making: Making<V, F> = Making { make: Some(make), made: None };
+        let mut making: Making<'_, V, E, F> = Making { cache: self, make: Some(make), outcome: None };
         // SAFETY: the key and `making` outlive the call, and `make_value` is given `making` alone.
         let status = unsafe {
             ffi::luffa_get_or_insert(
@@ -343,14 +428,15 @@ impl Cache {
                 &mut entry.raw,
             )
         };
-        if let Some(Err(panic)) = making.made {
-            resume_unwind(panic);
+        match (making.outcome, done(status)) {
+            (Some(Outcome::Panicked(panic)), _) => resume_unwind(panic),
+            (Some(Outcome::Failed(error)), Err(_)) => Err(MakeError::Make(error)),
+            (_, Err(error)) => Err(MakeError::Cache(error)),
+            (_, Ok(())) => Ok(entry),
         }
-        done(status)?;
-        Ok(entry)
     }
 
-    /// Removes a key, and returns an entry of its record, if there was one.
+    /// Removes a key, and returns an entry of its record, if there was one, even if it is expired.
     ///
     /// # Errors
     /// F7 or F9.
@@ -436,7 +522,7 @@ impl fmt::Debug for Cache {
 pub struct Stats {
     /// The sum of the weights.
     pub usage: u64,
-    /// How many records there are.
+    /// How many records there are, also expired ones that have not left.
     pub entries: u64,
     /// Lookups that found their key.
     pub hits: u64,
@@ -444,36 +530,57 @@ pub struct Stats {
     pub misses: u64,
 }
 
-struct Making<V, F> {
+enum Outcome<V, E> {
+    Made(V),
+    Failed(E),
+    Panicked(Box<dyn Any + Send>),
+}
+
+struct Making<'a, V, E, F> {
+    cache: &'a Cache,
     make: Option<F>,
-    made: Option<std::thread::Result<V>>,
+    outcome: Option<Outcome<V, E>>,
 }
 
 extern "C" fn make_value<V: AsRef<[u8]>, E, F: FnOnce() -> std::result::Result<V, E>>(
     context: *mut c_void,
-    _key: *const c_void,
-    _key_len: usize,
+    key: *const c_void,
+    key_len: usize,
     out: *mut ffi::luffa_made,
 ) -> c_int {
-    // SAFETY: the context is the `Making` of the call, which nothing else uses meanwhile.
-    let making = unsafe { &mut *context.cast::<Making<V, F>>() };
+    // SAFETY: the context is the `Making` of the call, which nothing else uses meanwhile; the key is that of the call.
+    let (making, key) = unsafe { (&mut *context.cast::<Making<'_, V, E, F>>(), bytes(key, key_len)) };
     let Some(make) = making.make.take() else {
-        return CANCELLED as c_int;
+        return 1;
     };
-    match catch_unwind(AssertUnwindSafe(make)) {
-        Ok(Ok(value)) => making.made = Some(Ok(value)),
-        Ok(Err(_)) => return CANCELLED as c_int,
-        Err(panic) => making.made = Some(Err(panic)),
-    }
-    let Some(Ok(value)) = &making.made else {
-        return CANCELLED as c_int;
+    let outcome = making.outcome.insert(match catch_unwind(AssertUnwindSafe(make)) {
+        Ok(Ok(value)) => Outcome::Made(value),
+        Ok(Err(error)) => Outcome::Failed(error),
+        Err(panic) => Outcome::Panicked(panic),
+    });
+    let Outcome::Made(value) = outcome else {
+        return 1;
     };
-    // SAFETY: the library gives the place, and copies the value before the call of `get_or_insert` ends.
-    unsafe {
-        (*out).value = value.as_ref().as_ptr().cast();
-        (*out).value_len = value.as_ref().len();
+    // The bytes are asked for once, since another call of `as_ref` may return others.
+    let shown = catch_unwind(AssertUnwindSafe(|| {
+        let value = value.as_ref();
+        (value.as_ptr(), value.len(), making.cache.terms(&making.cache.options(key, value)))
+    }));
+    match shown {
+        Ok((value, len, terms)) => {
+            // SAFETY: the library gives the place, and copies the value before the call of `get_or_insert` ends.
+            let out = unsafe { &mut *out };
+            (out.value, out.value_len, out.weight) = (value.cast(), len, terms.weight);
+            if terms.flags & EXPIRES != 0 {
+                (out.now, out.expires) = (making.cache.now(), terms.expires.max(1));
+            }
+            0
+        }
+        Err(panic) => {
+            making.outcome = Some(Outcome::Panicked(panic));
+            1
+        }
     }
-    0
 }
 
 /// A record that is held: its key and value stay readable, even after an eviction, until the entry is dropped.

@@ -1,6 +1,6 @@
 //! What a user of the crate relies on.
-use luffapricot::{Cache, Entry, Event, Options, Policy};
-use std::sync::atomic::{AtomicUsize, Ordering};
+use luffapricot::{Builder, Cache, Entry, Error, Event, MakeError, Options, Policy};
+use std::sync::atomic::{AtomicBool, AtomicUsize, Ordering};
 use std::sync::{Arc, Mutex};
 use std::time::Duration;
 
@@ -89,12 +89,14 @@ fn what_left_is_told() {
 #[test]
 fn records_expire() {
     let cache = made(Policy::Lru, 10, 1);
-    let ttl = Options { ttl: Some(Duration::from_millis(30)), ..Options::default() };
+    let ttl = Options { ttl: Some(Duration::from_millis(300)), ..Options::default() };
     drop(cache.insert_with("soon", "x", &ttl).unwrap());
     cache.insert("never", "y").unwrap();
     assert!(cache.contains("soon"));
-    std::thread::sleep(Duration::from_millis(40));
+    std::thread::sleep(Duration::from_millis(350));
     assert!(cache.get("soon").is_none() && cache.get("never").is_some());
+    assert_eq!(cache.stats().entries, 2);
+    assert_eq!(&*cache.remove("soon").unwrap().unwrap(), b"x");
 }
 
 #[test]
@@ -114,8 +116,93 @@ fn one_caller_makes_a_value() {
         }
     });
     assert_eq!(runs.load(Ordering::SeqCst), 1);
-    assert_eq!(cache.get_or_insert("none", || Err::<Vec<u8>, _>(())).unwrap_err().number(), 15);
+    let error = cache.get_or_insert("none", || Err::<Vec<u8>, _>("gone")).unwrap_err();
+    assert_eq!((error, Error::from(error).number()), (MakeError::Make("gone"), 15));
     assert!(!cache.contains("none"));
+}
+
+#[test]
+fn those_who_wait_for_a_failure_fail() {
+    let cache = made(Policy::S3Fifo, 100, 1);
+    let runs = AtomicUsize::new(0);
+    let failures = AtomicUsize::new(0);
+    std::thread::scope(|scope| {
+        for _ in 0..4 {
+            scope.spawn(|| {
+                let found = cache.get_or_insert("key", || {
+                    runs.fetch_add(1, Ordering::SeqCst);
+                    std::thread::sleep(Duration::from_millis(20));
+                    Err::<Vec<u8>, _>("gone")
+                });
+                match found {
+                    Err(MakeError::Make("gone")) => failures.fetch_add(1, Ordering::SeqCst),
+                    Err(MakeError::Cache(error)) if error.number() == 15 => 0,
+                    other => panic!("{other:?}"),
+                };
+            });
+        }
+    });
+    assert_eq!(runs.into_inner(), failures.into_inner());
+}
+
+#[test]
+fn the_value_of_a_record_that_was_inserted_meanwhile_is_returned() {
+    let cache = made(Policy::Lru, 100, 1);
+    let insert = || cache.insert("key", "inserted").unwrap();
+    let found = cache.get_or_insert("key", || {
+        insert();
+        Err::<Vec<u8>, _>(())
+    });
+    assert_eq!(&*found.unwrap(), b"inserted");
+}
+
+/// Its bytes are fewer each second time.
+struct Shrinking(AtomicBool);
+
+impl AsRef<[u8]> for Shrinking {
+    fn as_ref(&self) -> &[u8] {
+        if self.0.fetch_xor(true, Ordering::SeqCst) {
+            b""
+        } else {
+            b"some bytes"
+        }
+    }
+}
+
+/// It has no bytes.
+struct Panicking;
+
+impl AsRef<[u8]> for Panicking {
+    fn as_ref(&self) -> &[u8] {
+        panic!("in as_ref")
+    }
+}
+
+#[test]
+fn bytes_are_asked_for_once() {
+    let cache = made(Policy::Lru, 100, 1);
+    for bytes in [false, true] {
+        let entry = cache.get_or_insert([u8::from(bytes)], || Ok::<_, ()>(Shrinking(bytes.into()))).unwrap();
+        assert_eq!(&*entry, if bytes { &b""[..] } else { &b"some bytes"[..] });
+    }
+}
+
+#[test]
+#[should_panic(expected = "in as_ref")]
+fn a_panic_of_the_bytes_reaches_the_caller() {
+    drop(made(Policy::Lru, 100, 1).get_or_insert("a", || Ok::<_, ()>(Panicking)));
+}
+
+#[test]
+fn a_builder_weighs_and_expires() {
+    let builder = Cache::builder(100).shards(1).weigher(|key, value| key.len() + value.len());
+    let cache = builder.ttl(Duration::from_millis(30)).build().unwrap();
+    cache.insert("a", "bcd").unwrap();
+    let entry = cache.get_or_insert("e", || Ok::<_, ()>("f")).unwrap();
+    assert_eq!((entry.weight(), cache.stats().usage), (2, 6));
+    drop(cache.insert_with("never", "", &Options::default()).unwrap());
+    std::thread::sleep(Duration::from_millis(40));
+    assert!(!cache.contains("a") && !cache.contains("e") && cache.contains("never"));
 }
 
 #[test]
@@ -143,6 +230,8 @@ fn it_crosses_threads() {
     fn crosses<T: Send + Sync>() {}
     crosses::<Cache>();
     crosses::<Entry>();
+    crosses::<Builder>();
+    crosses::<MakeError<Error>>();
     let cache = made(Policy::Lfu, 300, 4);
     std::thread::scope(|scope| {
         for seed in 1..5u32 {

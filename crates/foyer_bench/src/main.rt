@@ -4,7 +4,8 @@
 
 use foyer_core::RawCacheConfig;
 use foyer_policy::{
-    DefaultHasher, Eviction, Fifo, HashBuilder, Lfu, Lru, ModHasher, S3Fifo, Sieve,
+    AnyEviction, DefaultHasher, Eviction, EvictionConfig, Fifo, FifoConfig, HashBuilder, Lfu,
+    LfuConfig, Lru, LruConfig, ModHasher, S3Fifo, S3FifoConfig, Sieve, SieveConfig,
 };
 use foyer_raw::{NoListener, RawCache};
 use std::env::{self, Env};
@@ -107,37 +108,45 @@ fn run<R: AllocGlobal + Clock + Print + Eprint + Threads + Wait + Sync>(
     Ok(())
 }
 
-// Runs once, over a new cache. Whether threads may share a cache is known of each type of caches, and not of a type
-// that is generic in its policy and its hasher: so a macro writes both out.
+// Runs once, over a new cache.
 fn run_once<R: AllocGlobal + Clock + Eprint + Threads + Wait + Sync>(
     rt: &R,
     args: &BenchArgs,
     traces: &[Vec<u64>],
     progress: &mut Progress,
 ) -> Result<Report, Failure> {
-    let first = Moment::first(args.life);
-    macro_rules! over {
-        ($policy:ty) => {
-            match (args.threads, args.hasher) {
-                (None, Hasher::Mod) => on_core::<R, $policy, ModHasher>(rt, args, traces, progress),
-                (None, Hasher::Default) => {
-                    on_core::<R, $policy, DefaultHasher>(rt, args, traces, progress)
-                }
-                (Some(_), Hasher::Mod) => {
-                    run_threads(rt, rt.alloc(), shared::<R, $policy, ModHasher>(rt, args)?, traces, first)
-                }
-                (Some(_), Hasher::Default) => {
-                    run_threads(rt, rt.alloc(), shared::<R, $policy, DefaultHasher>(rt, args)?, traces, first)
-                }
-            }
-        };
+    let (alloc, first) = (rt.alloc(), Moment::first(args.life));
+    match (args.threads, args.hasher) {
+        (None, Hasher::Mod) => on_policy::<R, ModHasher>(rt, args, traces, progress),
+        (None, Hasher::Default) => on_policy::<R, DefaultHasher>(rt, args, traces, progress),
+        (Some(_), Hasher::Mod) => {
+            run_threads(rt, alloc, shared::<R, ModHasher>(rt, args)?, traces, first)
+        }
+        (Some(_), Hasher::Default) => {
+            run_threads(
+                rt,
+                alloc,
+                shared::<R, DefaultHasher>(rt, args)?,
+                traces,
+                first,
+            )
+        }
     }
+}
+
+// Runs over a core of a policy.
+fn on_policy<R: AllocGlobal + Clock + Eprint, S: HashBuilder + Default>(
+    rt: &R,
+    args: &BenchArgs,
+    traces: &[Vec<u64>],
+    progress: &mut Progress,
+) -> Result<Report, Failure> {
     match args.policy {
-        Policy::Fifo => over!(Fifo),
-        Policy::Lru => over!(Lru),
-        Policy::Lfu => over!(Lfu),
-        Policy::S3Fifo => over!(S3Fifo),
-        Policy::Sieve => over!(Sieve),
+        Policy::Fifo => on_core::<R, Fifo, S>(rt, args, traces, progress),
+        Policy::Lru => on_core::<R, Lru, S>(rt, args, traces, progress),
+        Policy::Lfu => on_core::<R, Lfu, S>(rt, args, traces, progress),
+        Policy::S3Fifo => on_core::<R, S3Fifo, S>(rt, args, traces, progress),
+        Policy::Sieve => on_core::<R, Sieve, S>(rt, args, traces, progress),
     }
 }
 
@@ -163,17 +172,25 @@ where
     run_core(rt, rt.alloc(), &mut core, keys.as_slice(), first, progress)
 }
 
-// A cache behind locks, in its policy's default configuration.
-fn shared<'a, R: AllocGlobal + Wait, E: Eviction, S: HashBuilder + Default>(
+// A cache behind locks, in its policy's default configuration. As in a `Cache`, its type leaves the policy open.
+fn shared<'a, R: AllocGlobal + Wait, S: HashBuilder + Default>(
     rt: &'a R,
     args: &BenchArgs,
-) -> Result<RawCache<&'a R, E, u64, u64, S>, Failure>
-where
-    E::Config: Default,
-{
+) -> Result<RawCache<&'a R, AnyEviction, u64, u64, S>, Failure> {
     let config = RawCacheConfig {
         shards: args.shards as usize,
+        eviction_config: config_of(args.policy),
         ..RawCacheConfig::new(args.capacity as usize)
     };
     Ok(RawCache::new(rt, rt.alloc(), config, NoListener::new())?)
+}
+
+fn config_of(policy: Policy) -> EvictionConfig {
+    match policy {
+        Policy::Fifo => EvictionConfig::Fifo(FifoConfig::default()),
+        Policy::Lru => EvictionConfig::Lru(LruConfig::default()),
+        Policy::Lfu => EvictionConfig::Lfu(LfuConfig::default()),
+        Policy::S3Fifo => EvictionConfig::S3Fifo(S3FifoConfig::default()),
+        Policy::Sieve => EvictionConfig::Sieve(SieveConfig::default()),
+    }
 }

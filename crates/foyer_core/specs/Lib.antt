@@ -41,6 +41,7 @@ pub mod Rules
 pub mod Questions
 pub mod Probing
 pub mod Tags
+pub mod Tails
 pub mod Trails
 pub mod Stats
 pub mod ResidentPieces

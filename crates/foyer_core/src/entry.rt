@@ -2,17 +2,17 @@
 
 ghost use Rattle.std.specs.Prelude.{◌≡◌, IsNone, None, Some, false, true, MatchOption, IfSome, IfOk, IfErr};
 ghost use Rattle.foyer_policy.specs.declared.error.Reason.TheVariants.{NoMemory};
-ghost use Rattle.std.specs.Arc.{arc_value};
 ghost use Rattle.foyer_core.specs.Values.{body_of};
 
 use crate::piece::Piece;
-use crate::share::{Body, Share};
+use crate::share::Share;
 use foyer_policy::{Error, Event, Reason, Result, Source};
-use std::alloc::Global;
 use std::marker::Model;
-use std::sync::Arc;
 
 mod alike;
+mod tail;
+
+use tail::Tail;
 
 /// A record that left. Its data stays readable.
 #[derive(Drop)]
@@ -104,25 +104,21 @@ pub type Leave<K, V, P> = (Event, Left<K, V, P>);
 pub struct CoreEntry<K, V, P> {
     number: u64,
     id: u64,
-    // Where the record was when the entry was made. It is only a hint.
-    slot: usize,
     kept: Share<K, V, P>,
-    // The share for `left`.
-    left: Option<Arc<Body<K, V, P>, Global>>,
-    source: Source,
+    tail: Tail<K, V, P>,
 }
 
 impl<K, V, P> Model for CoreEntry<K, V, P> {
     ghost use Rattle.std.specs.Prelude.{◌≡◌, is_some};
     ghost use Rattle.std.specs.Option.{ForSome};
-    ghost use Rattle.std.specs.Arc.{arc_value};
+    ghost use Rattle.foyer_core.specs.Tails.{share_of, source_of};
     ghost use Rattle.foyer_core.specs.Values.{Held, body_of};
 
     ghost Value = { Held K V P };
 
-    ghost view = { λ e. record { number = e.number; id = e.id; kept = e.kept; source = e.source; left = is_some e.left } };
+    ghost view = { λ e. record { number = e.number; id = e.id; kept = e.kept; source = source_of e.tail; left = is_some (share_of e.tail) } };
 
-    ghost invariant = { λ e. ForSome e.left (λ body. arc_value body ≡ body_of e.kept) };
+    ghost invariant = { λ e. ForSome (share_of e.tail) (λ body. body ≡ body_of e.kept) };
 }
 
 impl<K: Drop, V: Drop, P: Drop> CoreEntry<K, V, P> {
@@ -149,14 +145,12 @@ impl<K: Drop, V: Drop, P: Drop> CoreEntry<K, V, P> {
     ) -> Option<Self>
         ensures { IfSome result (λ e. e ≡ record { number = number; id = id; kept = kept; source = source; left = told }) }
     {
-        let left = if told { Some(kept.body()?) } else { None };
+        let share = if told { Some(kept.body()?) } else { None };
         Some(CoreEntry {
             number,
             id,
-            slot,
             kept,
-            left,
-            source,
+            tail: Tail::new(source, slot, share),
         })
     }
 
@@ -181,7 +175,7 @@ impl<K: Drop, V: Drop, P: Drop> CoreEntry<K, V, P> {
     pub(crate) fn set_slot(&mut self, slot: usize)
         ensures { self.new ≡ self.old }
     {
-        self.slot = slot;
+        self.tail.set_slot(slot);
     }
 
     // Sets where the record stands: the number of the core, the record's id and its slot.
@@ -191,13 +185,13 @@ impl<K: Drop, V: Drop, P: Drop> CoreEntry<K, V, P> {
     {
         self.number = number;
         self.id = id;
-        self.slot = slot;
+        self.tail.set_slot(slot);
     }
 
     // The slot that the record may be in.
     #[inline(always)]
     pub(crate) fn slot(&self) -> usize {
-        self.slot
+        self.tail.slot()
     }
 
     /// Returns the key's hash.
@@ -245,7 +239,7 @@ impl<K: Drop, V: Drop, P: Drop> CoreEntry<K, V, P> {
     pub fn source(&self) -> Source
         ensures { result ≡ self.now.source }
     {
-        self.source
+        self.tail.source()
     }
 
     /// Returns what the record would leave with, once: it has a share of the data for that.
@@ -254,7 +248,7 @@ impl<K: Drop, V: Drop, P: Drop> CoreEntry<K, V, P> {
         ensures once { IsNone result → self.old.left ≡ false }
         ensures taken { self.new ≡ record self.old { left = false } }
     {
-        match self.left.take() {
+        match self.tail.take_share() {
             Some(body) => Some(Left::new(
                 self.number,
                 self.id,
@@ -273,7 +267,7 @@ impl<K: Drop, V: Drop, P: Drop> CoreEntry<K, V, P> {
         ensures refused { IfErr result (λ e. e ≡ NoMemory) }
     {
         let share = self.kept.try_clone()?;
-        Ok(Piece::of_share(self.number, self.id, self.slot, share))
+        Ok(Piece::of_share(self.number, self.id, self.slot(), share))
     }
 
     // An entry like this one, with its own share for `left`, of a record in this slot. F7 if the reference count is
@@ -283,7 +277,7 @@ impl<K: Drop, V: Drop, P: Drop> CoreEntry<K, V, P> {
         ensures refused { IfErr result (λ e. e ≡ NoMemory) }
     {
         let kept = self.kept.try_clone()?;
-        match CoreEntry::new(self.number, self.id, slot, kept, self.source, true) {
+        match CoreEntry::new(self.number, self.id, slot, kept, self.source(), true) {
             Some(entry) => Ok(entry),
             None => Err(Error::new(Reason::NoMemory)),
         }
@@ -295,10 +289,8 @@ impl<K: Drop, V: Drop, P: Drop> CoreEntry<K, V, P> {
         let CoreEntry {
             number: _,
             id: _,
-            slot: _,
             kept: _,
-            left: _,
-            source: _,
+            tail: _,
         } = self;
     }
 }

@@ -15,7 +15,7 @@ pub trait Filter<K, V>: Drop {
         ensures { admits self.now key.now value.now result };
 }
 
-/// Every record is admitted.
+/// Admits every record.
 #[derive(Clone, Copy, Debug, Default)]
 pub struct AdmitAll;
 

@@ -4,7 +4,7 @@ ghost use Rattle.std.specs.Prelude.{◌≡◌, ◌+◌, ℕ, length, min};
 
 use foyer_core::Weighter;
 
-/// A text or bytes, whose length counts. The struct around it doesn't.
+/// Text or bytes, weighed by their length. The struct that holds them doesn't count.
 pub trait ByteLen {
     ghost use Rattle.std.specs.Prelude.{ℕ};
 

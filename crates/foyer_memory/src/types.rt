@@ -8,7 +8,8 @@ use foyer_core::{AdmitAll, CacheProperties, TagFinder, UnitWeighter};
 use foyer_policy::{DefaultHasher, FifoConfig, LfuConfig, LruConfig, S3FifoConfig, SieveConfig};
 use foyer_raw::{Direct, NoFetch, NoListener, NoopPipe};
 
-/// A cache of which only the parts are written that most programs choose: `get_or_insert_with` makes what is missing.
+/// A cache that fetches nothing by futures, with the type parameters first that most programs choose. `get_or_insert_with`
+/// makes what is missing.
 pub type PlainCache<
     H,
     K,

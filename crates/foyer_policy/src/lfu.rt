@@ -256,7 +256,7 @@ impl Eviction for Lfu {
         self.protected_weight = 0;
     }
 
-    #[inline(always)]
+    // Not put in line: with it, a look-up under `AnyEviction` would be too large to be put in line itself.
     fn acquire(&mut self, place: Place) {
         let item = self.lists.get(place).whole();
         self.sketch.update(item.hash);

@@ -31,8 +31,8 @@ mod walks;
 
 /// An in-memory cache that threads share, with its eviction policy as a type parameter.
 ///
-/// Each shard has a lock of its own. A call makes one step of a shard, or one of each in turn, and reports what left
-/// after the lock is released.
+/// Each shard has a lock of its own. A call on a key makes a step of its shard, a call on all records one of each shard in
+/// turn; what left is reported after the lock is released.
 #[derive(Drop)]
 pub struct RawCache<
     H,
@@ -133,8 +133,8 @@ where
         })
     }
 
-    /// The same cache with this time to live, in the unit of the current time: from then on what is inserted or fetched by this
-    /// value and its clones, and says no expiry of its own, expires at that call's `now + time_to_live` (at most 2^64 - 1).
+    /// Sets the time to live of this value and of clones made of it later, in the unit of the current time: a record that
+    /// they insert or fetch without an expiry of its own expires at the call's `now + time_to_live` (at most 2^64 - 1).
     pub fn with_time_to_live(mut self, time_to_live: Option<u64>) -> Self
         ensures { result.time_to_live ≡ time_to_live }
     {

@@ -43,6 +43,7 @@ use Rattle.foyer_core.specs.contracts.cache_core.load.Load as Load
 use Rattle.foyer_core.specs.contracts.cache_core.CacheCore as Core
 use Rattle.foyer_core.specs.contracts.entry.CoreEntry as CoreEntry
 use Rattle.foyer_core.specs.contracts.entry.Left as Left
+use Rattle.foyer_core.specs.contracts.entry.tail.Tail as Tail
 
 module _ (T : RattleType) (t : IsSend T) where
   cell : IsSend (Cell.the_field T).row
@@ -81,8 +82,12 @@ module _ (K V P : RattleType) (k : IsSend K) (v : IsSend V) (p : IsSend P) (ks :
   slot = let a = Arc-send (Body.the_row K V P) (as_row_send (Body.the_field K V P) body) (as_row_sync (Body.the_field K V P) body_sync) in
       let s = as_row_send (Share.the_field K V P) share in search (sendable, crosses) depth 20
 
+  tail : IsSend (Tail.the_field K V P).row
+  tail = let a = Arc-send (Body.the_row K V P) (as_row_send (Body.the_field K V P) body) (as_row_sync (Body.the_field K V P) body_sync) in
+      search (sendable, crosses) depth 20
+
   pub entry : IsSend (CoreEntry.the_field K V P).row
-  entry = let a = Arc-send (Body.the_row K V P) (as_row_send (Body.the_field K V P) body) (as_row_sync (Body.the_field K V P) body_sync) in
+  entry = let t = as_row_send (Tail.the_field K V P) tail in
       let s = as_row_send (Share.the_field K V P) share in search (sendable, crosses) depth 20
 
   pub gone : IsSend (Left.the_field K V P).row

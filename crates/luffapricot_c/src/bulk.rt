@@ -24,7 +24,7 @@ pub struct LuffaLoad {
     pub entries: u64,
 }
 
-/// Sets the capacity and evicts down to it. 0, NOT_OPEN, UNTOLD, or 7 for F7.
+/// Sets the capacity and evicts down to it. 0, NOT_OPEN, UNTOLD, or 7 for F7; the evictions so far then stand.
 #[unsafe(no_mangle)]
 pub extern "C" fn luffa_shard_resize(
     shard: &mut LuffaShard,
@@ -43,7 +43,7 @@ pub extern "C" fn luffa_shard_resize(
     status
 }
 
-/// Evicts all that is not pinned. 0, NOT_OPEN, UNTOLD, or 7 for F7.
+/// Evicts all that is not pinned. 0, NOT_OPEN, UNTOLD, or 7 for F7; the evictions so far then stand.
 #[unsafe(no_mangle)]
 pub extern "C" fn luffa_shard_evict_all(shard: &mut LuffaShard, alloc: Global, now: u64) -> u32
     ensures { OnHeld (λ old status new. IfTaken old.left.items status old new (EvictsAll now status old new))

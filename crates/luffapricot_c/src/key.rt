@@ -8,7 +8,7 @@ use smallvec::SmallVec;
 use std::alloc::Global;
 use std::hash::{Hash, Hasher};
 
-/// How many bytes a key or a value may have that allocates nothing.
+/// A key or a value of at most so many bytes allocates nothing.
 const IN_PLACE: usize = 22;
 
 /// Bytes, which are kept in place if they are few.
@@ -57,7 +57,7 @@ impl Key {
         })
     }
 
-    /// Becomes the key of these bytes, in the room of the last one's.
+    /// Replaces the bytes by these, and keeps the room that they have.
     #[inline(always)]
     pub(crate) fn set(&mut self, hash: u64, bytes: &[u8]) -> Result<()>
         ensures hash { self.new.hash ≡ hash }

@@ -7,7 +7,7 @@ use crate::hold::{Entry, Gone};
 use crate::status;
 use std::ptr;
 
-/// A record in place. The addresses are good for as long as the number is held.
+/// A record that is shown where it lies. The addresses are good for as long as the number is held.
 #[repr(C)]
 #[derive(Drop)]
 pub struct LuffaRecord {

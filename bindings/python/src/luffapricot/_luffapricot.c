@@ -2,9 +2,11 @@
  * _luffapricot: a cache of Python objects, and the wrapper of a cached function.
  *
  * A dict maps each key to its node, which holds the key and the value. The luffa_cache decides what leaves: its key is
- * the node's address and the hash of the Python key, by which the policies remember keys, and its values are empty. A
- * node stays in the dict while the cache has a record of it, or a call uses it; what the listener hears is taken out of
- * the dict after the call, since that may run Python code.
+ * the node's address and the hash of the Python key, by which the policies remember keys. A node stays in the dict
+ * while the cache has a record of it, or a call uses it; what the listener hears is taken out of the dict afterwards.
+ *
+ * The hash and the comparison of a key may be Python code, which may call the cache or let other threads run. So a node
+ * that the cache has a record of, or that is to leave, has a reference of its own beside that of the dict.
  */
 #define PY_SSIZE_T_CLEAN
 #include <Python.h>
@@ -18,17 +20,20 @@ typedef struct node {
     PyObject_HEAD PyObject *key;
     PyObject *value; /* NULL while it is being made */
     uint64_t hash;
-    size_t records;    /* how many records of it the cache has: 2 for a moment when one replaces another */
-    size_t uses;       /* calls that use it */
-    struct node *next; /* the next one of those that are to leave the dict */
+    size_t records;      /* how many records of it the cache has: 2 for a moment when one replaces another */
+    size_t uses;         /* calls that use it */
+    unsigned long maker; /* the thread that makes its value, or 0 */
+    struct node *next;   /* the next one of those that are to leave the dict */
     char is_leaving;
+    char is_out; /* of the dict */
 } node;
 
 typedef struct {
     PyObject_HEAD PyObject *nodes; /* dict: key to node */
     luffa_cache *cache;
     node *leaving;
-    uint64_t ttl; /* nanoseconds, or 0 */
+    PyObject *weigher; /* or NULL */
+    uint64_t ttl;      /* nanoseconds, or 0 */
     uint64_t hits;
     uint64_t misses;
     size_t running;  /* calls that let other threads run meanwhile */
@@ -41,7 +46,19 @@ struct id {
     node *node;
 };
 
-static PyObject *refusal; /* luffapricot.Error */
+static PyObject *refusal;  /* luffapricot.Error */
+static PyObject *dict_pop; /* dict.pop */
+
+/* The state of this thread while it has given up the lock of the interpreter, or NULL. */
+static _Thread_local PyThreadState *released;
+
+static void let_others_run(void) { released = PyEval_SaveThread(); }
+
+static void run_alone(void) {
+    PyThreadState *state = released;
+    released = NULL;
+    PyEval_RestoreThread(state);
+}
 
 static int node_traverse(node *self, visitproc visit, void *arg) {
     Py_VISIT(self->key);
@@ -81,21 +98,59 @@ static uint64_t hash_id(void *context, const void *key, size_t key_len) {
     return hash ^ hash >> 32;
 }
 
+static struct id id_of(node *it) { return (struct id){it->hash, it}; }
+
+static void add_record(node *it) {
+    if (it->records++ == 0 && !it->is_leaving)
+        Py_INCREF(it);
+}
+
+/* Puts a node on the list of those that are to leave, which takes over a reference. */
+static void put_in_list(cache_object *self, node *it) {
+    it->is_leaving = 1;
+    it->next = self->leaving;
+    self->leaving = it;
+}
+
+static void end_record(cache_object *self, node *it) {
+    if (--it->records == 0 && !it->is_leaving)
+        put_in_list(self, it);
+}
+
 static void hear(void *context, int event, const void *key, size_t key_len, const void *value, size_t value_len) {
-    cache_object *self = context;
     struct id id;
+    int is_released = released != NULL;
     (void)event;
     (void)key_len;
     (void)value;
     (void)value_len;
-    PyGILState_STATE state = PyGILState_Ensure();
+    if (is_released)
+        run_alone();
+    assert(PyGILState_Check());
     memcpy(&id, key, sizeof id);
-    if (--id.node->records == 0 && !id.node->is_leaving) {
-        id.node->is_leaving = 1;
-        id.node->next = self->leaving;
-        self->leaving = id.node;
+    end_record(context, id.node);
+    if (is_released)
+        let_others_run();
+}
+
+/* Removes the record of a node that no lookup can find any more. */
+static void remove_if_out(cache_object *self, node *it) {
+    struct id id = id_of(it);
+    if (it->is_out && it->records > 0 && self->cache != NULL)
+        luffa_remove(self->cache, &id, sizeof id);
+}
+
+/* Takes a node out of the dict. A node that fails to compare stays there. */
+static void take_out_of_dict(cache_object *self, node *it) {
+    PyObject *args[] = {self->nodes, it->key, Py_None};
+    PyObject *out = PyObject_Vectorcall(dict_pop, args, 3, NULL);
+    if (out == NULL) {
+        PyErr_Clear();
+    } else if (out != Py_None) { /* it may be in use again by now */
+        ((node *)out)->is_out = 1;
+        remove_if_out(self, (node *)out);
     }
-    PyGILState_Release(state);
+    Py_XDECREF(out);
 }
 
 /* Takes the nodes out of the dict that no record and no call needs. It may run Python code, and keeps an exception. */
@@ -108,11 +163,10 @@ static void let_go(cache_object *self) {
         node *it = self->leaving;
         self->leaving = it->next;
         it->is_leaving = 0;
-        if (it->records > 0 || it->uses > 0)
+        if (it->records > 0)
             continue;
-        Py_INCREF(it);
-        if (self->nodes != NULL && PyDict_DelItem(self->nodes, it->key) < 0)
-            PyErr_Clear();
+        if (it->uses == 0 && self->nodes != NULL && !it->is_out)
+            take_out_of_dict(self, it);
         Py_DECREF(it);
     }
     PyErr_Restore(type, value, trace);
@@ -120,19 +174,20 @@ static void let_go(cache_object *self) {
 
 /* A call is done with a node. */
 static void done_with(cache_object *self, node *it) {
-    if (--it->uses == 0 && it->records == 0 && !it->is_leaving) {
-        it->is_leaving = 1;
-        it->next = self->leaving;
-        self->leaving = it;
-    }
-    Py_DECREF(it);
+    int is_last = --it->uses == 0;
+    if (is_last)
+        remove_if_out(self, it);
+    if (is_last && it->records == 0 && !it->is_leaving)
+        put_in_list(self, it);
+    else
+        Py_DECREF(it);
     let_go(self);
 }
 
 static PyObject *refused(luffa_status status) {
     if (status == LUFFA_NO_MEMORY)
         return PyErr_NoMemory();
-    return PyErr_Format(refusal, "the cache refused the call: F%u", (unsigned)status);
+    return PyErr_Format(refusal, "%s (F%u)", luffa_strerror(status), (unsigned)status);
 }
 
 static int is_closed(const cache_object *self) {
@@ -148,8 +203,6 @@ static uint64_t now_of(const cache_object *self) {
     clock_gettime(CLOCK_MONOTONIC, &time);
     return (uint64_t)time.tv_sec * 1000000000u + (uint64_t)time.tv_nsec;
 }
-
-static struct id id_of(node *it) { return (struct id){it->hash, it}; }
 
 /* Looks a key up, which counts as a use. Returns the value (a new reference), or NULL; then an exception may be set. */
 static PyObject *look_up(cache_object *self, PyObject *key) {
@@ -170,36 +223,49 @@ static PyObject *look_up(cache_object *self, PyObject *key) {
     return NULL;
 }
 
+static node *new_node(PyObject *key, Py_hash_t hash) {
+    node *it = PyObject_GC_New(node, &node_type);
+    if (it == NULL)
+        return NULL;
+    Py_INCREF(key);
+    it->key = key;
+    it->value = NULL;
+    it->hash = (uint64_t)hash;
+    it->records = it->uses = 0;
+    it->maker = 0;
+    it->is_leaving = it->is_out = 0;
+    PyObject_GC_Track(it);
+    return it;
+}
+
 /* The node of a key, which is made if there is none. It is used until done_with. */
 static node *use_node(cache_object *self, PyObject *key) {
     Py_hash_t hash = PyObject_Hash(key);
     if (hash == -1)
         return NULL;
     node *it = (node *)PyDict_GetItemWithError(self->nodes, key);
-    if (it != NULL) {
-        Py_INCREF(it);
-    } else {
-        if (PyErr_Occurred() || (it = PyObject_GC_New(node, &node_type)) == NULL)
+    Py_XINCREF(it);
+    if (it == NULL && !PyErr_Occurred()) {
+        node *made = new_node(key, hash);
+        if (made == NULL)
             return NULL;
-        Py_INCREF(key);
-        it->key = key;
-        it->value = NULL;
-        it->hash = (uint64_t)hash;
-        it->records = it->uses = 0;
-        it->next = NULL;
-        it->is_leaving = 0;
-        PyObject_GC_Track(it);
-        if (PyDict_SetItem(self->nodes, key, (PyObject *)it) < 0) {
-            Py_DECREF(it);
-            return NULL;
-        }
+        it = (node *)PyDict_SetDefault(self->nodes, key, (PyObject *)made); /* another one may be there by now */
+        Py_XINCREF(it);
+        Py_DECREF(made);
     }
+    if (it == NULL)
+        return NULL;
     it->uses++;
     if (is_closed(self)) { /* by the comparison of a key */
         done_with(self, it);
         return NULL;
     }
     return it;
+}
+
+static int read_size(PyObject *number, size_t *size) {
+    *size = PyLong_AsSize_t(number);
+    return *size == (size_t)-1 && PyErr_Occurred() ? -1 : 0;
 }
 
 /* The time from which on a record is expired. 0, never, without a time to live. */
@@ -211,14 +277,30 @@ static uint64_t expiry_of(cache_object *self, uint64_t ttl) {
     return ttl > UINT64_MAX - now ? UINT64_MAX : now + ttl;
 }
 
-/* Inserts a value. Returns 0, or -1 and an exception. */
-static int insert(cache_object *self, PyObject *key, PyObject *value, size_t weight, uint64_t ttl) {
+/* What a value counts. Returns 0, or -1 and an exception. It may run Python code. */
+static int weigh(const cache_object *self, PyObject *key, PyObject *value, size_t *weight) {
+    *weight = 1;
+    if (self->weigher == NULL)
+        return 0;
+    PyObject *number = PyObject_CallFunctionObjArgs(self->weigher, key, value, NULL);
+    int status = number == NULL ? -1 : read_size(number, weight);
+    Py_XDECREF(number);
+    return status;
+}
+
+/* Inserts a value, with this weight if there is one. Returns 0, or -1 and an exception. */
+static int insert(cache_object *self, PyObject *key, PyObject *value, const size_t *given, uint64_t ttl) {
+    size_t weight = 1;
+    if (given != NULL)
+        weight = *given;
+    else if (weigh(self, key, value, &weight) < 0)
+        return -1;
     node *it = use_node(self, key);
     if (it == NULL)
         return -1;
     struct id id = id_of(it);
     uint64_t expires = expiry_of(self, ttl);
-    it->records++;
+    add_record(it);
     luffa_status status = luffa_insert(self->cache, now_of(self), &id, sizeof id, NULL, 0, weight, expires);
     PyObject *old = NULL;
     if (status == LUFFA_OK) {
@@ -226,7 +308,7 @@ static int insert(cache_object *self, PyObject *key, PyObject *value, size_t wei
         old = it->value;
         it->value = value;
     } else {
-        it->records--;
+        end_record(self, it);
         refused(status);
     }
     done_with(self, it);
@@ -251,11 +333,6 @@ static int read_ttl(PyObject *seconds, uint64_t *ttl) {
     return 0;
 }
 
-static int read_size(PyObject *number, size_t *size) {
-    *size = PyLong_AsSize_t(number);
-    return *size == (size_t)-1 && PyErr_Occurred() ? -1 : 0;
-}
-
 static PyObject *cache_new(PyTypeObject *type, PyObject *args, PyObject *words) {
     (void)args;
     (void)words;
@@ -266,14 +343,20 @@ static PyObject *cache_new(PyTypeObject *type, PyObject *args, PyObject *words) 
 }
 
 static int cache_init(cache_object *self, PyObject *args, PyObject *words) {
-    static char *names[] = {"capacity", "policy", "shards", "ttl", NULL};
+    static char *names[] = {"capacity", "policy", "shards", "ttl", "weigher", NULL};
     static const char *const POLICIES[] = {"fifo", "lru", "lfu", "s3fifo", "sieve"};
-    PyObject *capacity, *shards = NULL, *ttl = NULL;
+    PyObject *capacity, *shards = NULL, *ttl = NULL, *weigher = NULL;
     const char *policy = "s3fifo";
-    if (!PyArg_ParseTupleAndKeywords(args, words, "O|sOO", names, &capacity, &policy, &shards, &ttl))
+    if (!PyArg_ParseTupleAndKeywords(args, words, "O|sOOO", names, &capacity, &policy, &shards, &ttl, &weigher))
         return -1;
     if (self->cache != NULL) {
         PyErr_SetString(PyExc_RuntimeError, "the cache was made before");
+        return -1;
+    }
+    if (weigher == Py_None)
+        weigher = NULL;
+    if (weigher != NULL && !PyCallable_Check(weigher)) {
+        PyErr_SetString(PyExc_TypeError, "the weigher must be callable");
         return -1;
     }
     uint32_t kind = 0;
@@ -297,11 +380,21 @@ static int cache_init(cache_object *self, PyObject *args, PyObject *words) {
         PyErr_SetString(PyExc_ValueError, "the number of shards must be at least 1");
     else if (status != LUFFA_OK)
         refused(status);
-    return status == LUFFA_OK ? 0 : -1;
+    if (status != LUFFA_OK)
+        return -1;
+    Py_XINCREF(weigher);
+    Py_XSETREF(self->weigher, weigher);
+    return 0;
 }
 
 static int cache_traverse(cache_object *self, visitproc visit, void *arg) {
+    PyObject *key, *it;
+    Py_ssize_t at = 0;
+    Py_VISIT(self->weigher);
     Py_VISIT(self->nodes);
+    while (self->nodes != NULL && PyDict_Next(self->nodes, &at, &key, &it))
+        if (((node *)it)->records > 0 || ((node *)it)->is_leaving)
+            Py_VISIT(it);
     return 0;
 }
 
@@ -317,6 +410,7 @@ static int cache_clear_all(cache_object *self) {
 static int cache_gc_clear(cache_object *self) {
     cache_clear_all(self);
     Py_CLEAR(self->nodes);
+    Py_CLEAR(self->weigher);
     return 0;
 }
 
@@ -326,12 +420,20 @@ static void cache_dealloc(cache_object *self) {
     Py_TYPE(self)->tp_free((PyObject *)self);
 }
 
+/* Raises KeyError. A key that is a tuple is one argument of it. */
+static void set_missing(PyObject *key) {
+    PyObject *args = PyTuple_Pack(1, key);
+    if (args != NULL)
+        PyErr_SetObject(PyExc_KeyError, args);
+    Py_XDECREF(args);
+}
+
 static PyObject *cache_subscript(cache_object *self, PyObject *key) {
     if (is_closed(self))
         return NULL;
     PyObject *value = look_up(self, key);
     if (value == NULL && !PyErr_Occurred())
-        PyErr_SetObject(PyExc_KeyError, key);
+        set_missing(key);
     return value;
 }
 
@@ -363,10 +465,10 @@ static int cache_ass_subscript(cache_object *self, PyObject *key, PyObject *valu
     if (is_closed(self))
         return -1;
     if (value != NULL)
-        return insert(self, key, value, 1, self->ttl);
+        return insert(self, key, value, NULL, self->ttl);
     int found = take_out(self, key, NULL);
     if (found == 0)
-        PyErr_SetObject(PyExc_KeyError, key);
+        set_missing(key);
     return found == 1 ? 0 : -1;
 }
 
@@ -404,13 +506,16 @@ static PyObject *cache_get(cache_object *self, PyObject *const *args, Py_ssize_t
 static PyObject *cache_insert(cache_object *self, PyObject *args, PyObject *words) {
     static char *names[] = {"key", "value", "weight", "ttl", NULL};
     PyObject *key, *value, *weight = NULL, *seconds = NULL;
-    size_t size = 1;
+    size_t size;
     uint64_t ttl;
     if (!PyArg_ParseTupleAndKeywords(args, words, "OO|OO", names, &key, &value, &weight, &seconds) || is_closed(self))
         return NULL;
+    if (weight == Py_None)
+        weight = NULL;
     if ((weight != NULL && read_size(weight, &size) < 0) || read_ttl(seconds, &ttl) < 0)
         return NULL;
-    if (insert(self, key, value, size, seconds == NULL || seconds == Py_None ? self->ttl : ttl) < 0)
+    if (insert(self, key, value, weight == NULL ? NULL : &size,
+               seconds == NULL || seconds == Py_None ? self->ttl : ttl) < 0)
         return NULL;
     Py_RETURN_NONE;
 }
@@ -420,28 +525,34 @@ struct making {
     cache_object *self;
     node *node;
     PyObject *make;
-    PyThreadState *thread;
     int has_run;
     int has_failed;
 };
 
 static int make_value(void *context, const void *key, size_t key_len, luffa_made *made) {
     struct making *making = context;
+    node *it = making->node;
     (void)key;
     (void)key_len;
-    PyEval_RestoreThread(making->thread);
+    run_alone();
     making->has_run = 1;
-    PyObject *value = PyObject_CallFunctionObjArgs(making->make, making->node->key, NULL);
+    it->maker = PyThread_get_thread_ident();
+    PyObject *value = PyObject_CallFunctionObjArgs(making->make, it->key, NULL);
+    if (value != NULL && weigh(making->self, it->key, value, &made->weight) < 0)
+        Py_CLEAR(value);
+    it->maker = 0;
     making->has_failed = value == NULL;
     if (value != NULL) {
-        PyObject *old = making->node->value;
-        making->node->value = value;
-        making->node->records++;
+        PyObject *old = it->value;
+        it->value = value;
+        add_record(it);
+        made->value = "made"; /* by which its record differs from that of an insert */
+        made->value_len = 4;
         made->expires = expiry_of(making->self, making->self->ttl);
         made->now = now_of(making->self);
         Py_XDECREF(old);
     }
-    making->thread = PyEval_SaveThread();
+    let_others_run();
     return value == NULL;
 }
 
@@ -455,30 +566,34 @@ static PyObject *cache_get_or_insert(cache_object *self, PyObject *const *args, 
     node *it = use_node(self, args[0]);
     if (it == NULL)
         return NULL;
+    if (it->maker == PyThread_get_thread_ident()) {
+        PyErr_SetString(PyExc_RuntimeError, "the function that makes a value asks for its own key");
+        done_with(self, it);
+        return NULL;
+    }
     struct id id = id_of(it);
-    struct making making = {self, it, args[1], NULL, 0, 0};
+    struct making making = {self, it, args[1], 0, 0};
+    luffa_entry entry = {0};
     luffa_cache *cache = self->cache;
     luffa_status status;
     do { /* whoever waited for a call that failed tries by itself */
-        making.has_run = making.has_failed = 0;
         uint64_t now = now_of(self);
         self->running++; /* so that nobody closes the cache */
-        making.thread = PyEval_SaveThread();
-        status = luffa_get_or_insert(cache, now, &id, sizeof id, make_value, &making, NULL);
-        PyEval_RestoreThread(making.thread);
+        let_others_run();
+        status = luffa_get_or_insert(cache, now, &id, sizeof id, make_value, &making, &entry);
+        run_alone();
         self->running--;
     } while (status == LUFFA_CANCELLED && !making.has_run);
-    if (making.has_run && !making.has_failed && status != LUFFA_OK)
-        it->records--;
+    /* An insert of the key meanwhile ends the fetch with its own record. */
+    if (making.has_run && !making.has_failed && (status != LUFFA_OK || entry.value_len == 0))
+        end_record(self, it);
+    luffa_release(&entry);
     self->hits += status == LUFFA_OK && !making.has_run;
     self->misses += making.has_run;
-    PyObject *value = NULL;
-    if (status == LUFFA_OK && it->value != NULL) {
-        value = it->value;
-        Py_INCREF(value);
-    } else if (!making.has_failed) {
+    PyObject *value = making.has_failed || status != LUFFA_OK ? NULL : it->value;
+    Py_XINCREF(value);
+    if (value == NULL && !making.has_failed)
         refused(status == LUFFA_CANCELLED ? LUFFA_NO_MEMORY : status);
-    }
     done_with(self, it);
     return value;
 }
@@ -497,7 +612,7 @@ static PyObject *cache_pop(cache_object *self, PyObject *const *args, Py_ssize_t
         return args[1];
     }
     if (found == 0)
-        PyErr_SetObject(PyExc_KeyError, args[0]);
+        set_missing(args[0]);
     return value;
 }
 
@@ -523,26 +638,29 @@ static PyObject *cache_resize(cache_object *self, PyObject *number) {
     Py_RETURN_NONE;
 }
 
-/* The keys that a lookup would find, in a list. */
-static PyObject *cache_key_list(cache_object *self, PyObject *unused) {
-    PyObject *nodes, *keys;
+/* The keys that a lookup would find, each with its value, in a list. */
+static PyObject *cache_item_list(cache_object *self, PyObject *unused) {
+    PyObject *nodes, *items;
     (void)unused;
     if (is_closed(self) || (nodes = PyDict_Values(self->nodes)) == NULL)
         return NULL;
-    if ((keys = PyList_New(0)) != NULL) {
-        uint64_t now = now_of(self);
-        for (Py_ssize_t i = 0; i < PyList_GET_SIZE(nodes); i++) {
-            node *it = (node *)PyList_GET_ITEM(nodes, i);
-            struct id id = id_of(it);
-            if (it->value != NULL && luffa_contains(self->cache, now, &id, sizeof id) == LUFFA_OK &&
-                PyList_Append(keys, it->key) < 0) {
-                Py_CLEAR(keys);
-                break;
-            }
-        }
+    items = PyList_New(0);
+    for (Py_ssize_t i = 0; items != NULL && i < PyList_GET_SIZE(nodes); i++) {
+        node *it = (node *)PyList_GET_ITEM(nodes, i);
+        struct id id = id_of(it);
+        PyObject *value = it->value, *pair = NULL;
+        if (self->cache != NULL &&
+            (value == NULL || luffa_contains(self->cache, now_of(self), &id, sizeof id) != LUFFA_OK))
+            continue;
+        Py_XINCREF(value);
+        /* A request for memory may run Python code, which may close the cache. */
+        if (is_closed(self) || (pair = PyTuple_Pack(2, it->key, value)) == NULL || PyList_Append(items, pair) < 0)
+            Py_CLEAR(items);
+        Py_XDECREF(value);
+        Py_XDECREF(pair);
     }
     Py_DECREF(nodes);
-    return keys;
+    return items;
 }
 
 /* Hits, misses, usage, entries and capacity. */
@@ -551,9 +669,9 @@ static PyObject *cache_counts(cache_object *self, PyObject *unused) {
     if (is_closed(self))
         return NULL;
     luffa_stats stats = luffa_get_stats(self->cache);
-    return Py_BuildValue("KKKKn", (unsigned long long)self->hits, (unsigned long long)self->misses,
+    return Py_BuildValue("KKKKK", (unsigned long long)self->hits, (unsigned long long)self->misses,
                          (unsigned long long)stats.usage, (unsigned long long)stats.entries,
-                         (Py_ssize_t)luffa_capacity(self->cache));
+                         (unsigned long long)luffa_capacity(self->cache));
 }
 
 static PyObject *cache_reset_counts(cache_object *self, PyObject *unused) {
@@ -573,16 +691,21 @@ static PyObject *cache_close(cache_object *self, PyObject *unused) {
 }
 
 static PyMethodDef cache_methods[] = {
-    {"get", (PyCFunction)(void (*)(void))cache_get, METH_FASTCALL, "The value of a key, or a default."},
+    {"get", (PyCFunction)(void (*)(void))cache_get, METH_FASTCALL,
+     "get($self, key, default=None, /)\n--\n\nThe value of a key, or a default."},
     {"insert", (PyCFunction)(void (*)(void))cache_insert, METH_VARARGS | METH_KEYWORDS,
-     "Inserts a value with a weight and a time to live."},
+     "insert($self, key, value, weight=None, ttl=None)\n--\n\nInserts a value with a weight and a time to live in "
+     "seconds. None: as the cache has them; float('inf') never ends."},
     {"get_or_insert", (PyCFunction)(void (*)(void))cache_get_or_insert, METH_FASTCALL,
-     "The value of a key, which make(key) makes if it is missing; one thread makes it and the others wait."},
+     "get_or_insert($self, key, make, /)\n--\n\nThe value of a key, which make(key) makes if it is missing. Of several "
+     "threads one makes it and the others wait; if it fails, the next one tries."},
     {"pop", (PyCFunction)(void (*)(void))cache_pop, METH_FASTCALL, "Removes a key and returns its value."},
-    {"clear", (PyCFunction)cache_clear, METH_NOARGS, "Removes all keys."},
-    {"resize", (PyCFunction)cache_resize, METH_O, "Sets the capacity and evicts down to it."},
-    {"close", (PyCFunction)cache_close, METH_NOARGS, "Frees the cache. Later calls raise ValueError."},
-    {"_key_list", (PyCFunction)cache_key_list, METH_NOARGS, NULL},
+    {"clear", (PyCFunction)cache_clear, METH_NOARGS, "clear($self)\n--\n\nRemoves all keys."},
+    {"resize", (PyCFunction)cache_resize, METH_O,
+     "resize($self, capacity, /)\n--\n\nSets the capacity and evicts down to it."},
+    {"close", (PyCFunction)cache_close, METH_NOARGS,
+     "close($self)\n--\n\nFrees the cache. Later calls raise ValueError."},
+    {"_item_list", (PyCFunction)cache_item_list, METH_NOARGS, NULL},
     {"_counts", (PyCFunction)cache_counts, METH_NOARGS, NULL},
     {"_reset_counts", (PyCFunction)cache_reset_counts, METH_NOARGS, NULL},
     {NULL, NULL, 0, NULL},
@@ -658,7 +781,7 @@ static PyObject *cached_call(PyObject *callable, PyObject *const *args, size_t f
     PyObject *value = is_closed(self->cache) ? NULL : look_up(self->cache, key);
     if (value == NULL && !PyErr_Occurred()) {
         value = PyObject_Vectorcall(self->function, args, flags, names);
-        if (value != NULL && self->cache->cache != NULL && insert(self->cache, key, value, 1, self->cache->ttl) < 0)
+        if (value != NULL && self->cache->cache != NULL && insert(self->cache, key, value, NULL, self->cache->ttl) < 0)
             Py_CLEAR(value);
     }
     Py_DECREF(key);
@@ -720,8 +843,6 @@ static PyObject *cached_bound(PyObject *self, PyObject *instance, PyObject *type
 }
 
 static PyMemberDef cached_members[] = {
-    {"__dictoffset__", T_PYSSIZET, offsetof(cached_object, dict), READONLY, NULL},
-    {"__weaklistoffset__", T_PYSSIZET, offsetof(cached_object, weak), READONLY, NULL},
     {"_cache", T_OBJECT, offsetof(cached_object, cache), READONLY, NULL},
     {NULL, 0, 0, 0, NULL},
 };
@@ -756,6 +877,7 @@ PyMODINIT_FUNC PyInit__luffapricot(void) {
     if (PyType_Ready(&node_type) < 0 || PyType_Ready(&cache_type) < 0 || PyType_Ready(&cached_type) < 0 ||
         (keyword_mark = PyObject_CallNoArgs((PyObject *)&PyBaseObject_Type)) == NULL ||
         (refusal = PyErr_NewException("luffapricot.Error", PyExc_RuntimeError, NULL)) == NULL ||
+        (dict_pop = PyObject_GetAttrString((PyObject *)&PyDict_Type, "pop")) == NULL ||
         (module = PyModule_Create(&module_def)) == NULL)
         return NULL;
     Py_INCREF(refusal);

@@ -101,7 +101,7 @@ impl<
         }
     }
 
-    /// Gives each shard's policy another configuration, which later calls of `resize` go by too. No record leaves.
+    /// Gives each shard's policy another configuration, which later calls of `resize` use too. No record leaves.
     ///
     /// Takes no memory.
     ///

@@ -107,6 +107,7 @@ impl<
 
     /// Gives an entry back and returns what left with it. An entry that the core doesn't own is discarded, and
     /// nothing changes. Takes no memory.
+    #[inline(always)]
     pub fn drop_entry(&mut self, entry: CoreEntry<K, V, P>) -> Option<Leave<K, V, P>>
         ensures owned { Owns (core_of self.old) entry → AtShard (λ s t. GivesBack (meaning_of_core self.old) s entry.id result t)
             entry.kept.hash (core_of self.old) (core_of self.new) }

@@ -16,7 +16,7 @@ impl<E: Eviction, K: Key, V: Value, P: Properties, I: Finder<K>> Store<E, K, V, 
     ghost use Rattle.foyer_core.specs.Bulk.{TakesRecordOut};
     ghost use Rattle.foyer_core.specs.ResidentPieces.{IsPieceOf, ArePieces, is_resident};
 
-    /// A piece of each record in the index, expired or not, in the policy's order. Only memory can be missing (F7).
+    /// Returns a piece of each record in the index, expired or not, in the policy's order. Fails only with F7.
     pub fn pieces(&self, alloc: Global) -> Result<Vec<Piece<K, V, P>>>
         ensures pieces { IfOk result (λ pieces. ArePieces (meaning_of self.now) (state_of self.now) pieces.items) }
         ensures refused { IfErr result (λ e. e ≡ NoMemory) }
@@ -32,7 +32,7 @@ impl<E: Eviction, K: Key, V: Value, P: Properties, I: Finder<K>> Store<E, K, V, 
         Ok(pieces)
     }
 
-    // A piece of the record of an id. Only memory can be missing.
+    // Returns a piece of the record of an id. Fails only with F7.
     fn piece_of(&self, id: u64) -> Result<Piece<K, V, P>>
         requires { 0 < count_of id (E.model.order (E.view self.now.eviction)) }
         ensures piece { IfOk result (IsPieceOf (state_of self.now) id) }

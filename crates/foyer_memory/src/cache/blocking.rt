@@ -29,8 +29,9 @@ where
     /// returns. If a fetch by `get_or_fetch` is open for the key, the call blocks until that fetch's task has ended.
     ///
     /// # Errors
-    /// F11 with the fault, for all who wait, if the closure fails. F9, F7 as `get`; F10, F7 on a miss; what the insert is
-    /// refused with (F7 to F10); F14 if the runtime can't block this thread.
+    /// F9 and F7 as `get`; on a miss F10 and F7, what the insert fails with (F7 to F10), F11 with the fault, for all that
+    /// wait, if the closure fails, and F14 if the runtime can't block this thread. If another caller's fetch is open, what
+    /// that ends with (F12, F13 and F15 too).
     pub fn get_or_insert_with<F>(
         &self,
         now: u64,
@@ -69,8 +70,9 @@ where
     /// caller's task has ended, and this future is dropped.
     ///
     /// # Errors
-    /// F11 with the fault if the fetch fails. F9, F7 as `get`; F10, F7 on a miss; what the insert is refused with (F7 to F10,
-    /// F12); F14 if the runtime can't block this thread.
+    /// F9 and F7 as `get`; on a miss F10 and F7, what the insert fails with (F7 to F10, F12), F11 with the fault if the fetch
+    /// fails, and F14 if the runtime can't block this thread. If another caller's fetch is open, what that ends with (F13 and
+    /// F15 too).
     pub fn get_or_fetch_blocking(
         &self,
         now: u64,

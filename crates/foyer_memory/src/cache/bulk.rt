@@ -53,7 +53,7 @@ where
         self.cache.resize(now, capacity)
     }
 
-    /// Gives the policy another configuration, shard by shard, which later calls of `resize` go by too.
+    /// Gives the policy another configuration, shard by shard, which later calls of `resize` use too.
     ///
     /// No record leaves, and no memory is taken. Calls of `resize` and `reconfigure` take turns.
     ///

@@ -83,9 +83,9 @@ where
         Ok(())
     }
 
-    /// Gives the policy another configuration, which has no fault, shard by shard, where it takes it.
+    /// Gives each shard's policy another configuration, which has no fault, unless the policy refuses it.
     ///
-    /// Later calls of `resize` go by it too. No record leaves, and no memory is taken. Calls of `resize` and `configure`
+    /// Later calls of `resize` use it too. No record leaves, and no memory is taken. Calls of `resize` and `configure`
     /// take turns.
     pub fn configure(&self, config: &E::Config)
         requires { E.model.fault config.now ≡ None }

@@ -22,7 +22,7 @@ where
     Q: Pipe<Key = K, Value = V, Properties = P>,
     T: FetchTypes<K, V, P>,
 {
-    /// Calls a closure with each record, expired or not: shard by shard, in each policy's order. The records of a shard are
+    /// Calls a closure with each record, expired or not: shard by shard, in the policy's order. The records of a shard are
     /// those that it had at one moment. No lock is held during a call, so the closure may use the cache. It counts as no use.
     ///
     /// # Errors
@@ -57,7 +57,7 @@ where
         Ok(keys)
     }
 
-    /// Removes each record for which a closure returns false, as `Remove`, and tells them. The closure sees each record,
+    /// Removes each record for which a closure returns false, and tells the listener (`Remove`). The closure sees each record,
     /// expired or not, in the order of `for_each`, and may use the cache. A record that was replaced meanwhile stays.
     ///
     /// # Errors

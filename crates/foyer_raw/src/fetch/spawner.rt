@@ -75,7 +75,7 @@ impl<X: Future<Output = ()>> Spawner<X> for ListSpawner<X> {
     }
 }
 
-/// A future of the end of all tasks of a list. Only a task that is woken, and those with it, are polled again.
+/// A future of the end of all tasks of a list. Each poll polls all tasks that have not ended.
 #[derive(Drop)]
 pub struct AllTasks<X: Future<Output = ()>> {
     tasks: ListSpawner<X>,

@@ -17,7 +17,7 @@ use futures::task::{Context, Poll};
 use std::fmt::{self, Debug};
 use std::sync::Wait;
 
-/// A future of an entry, or of none. If it is dropped, it gives a handle that came meanwhile back.
+/// A future of an entry, or of none. If it is dropped, it gives back the handle that it was sent, if any.
 pub struct RawWait<H, E, K, V, S, P, W, A, L, Q, R, I = TagFinder<K>>
 where
     H: Wait + Drop,

@@ -81,8 +81,8 @@ where
         self.lock(hash).shard.contains(now, hash, key)
     }
 
-    // Inserts a record at a moment with this share of its data, and says in its entry where it stands. If a fetch is open,
-    // nothing happens, and the share comes back in `later`.
+    // Inserts a record at a moment with this share of its data, and sets its id and slot in its entry. If a fetch is
+    // open, nothing happens, and the share comes back in `later`.
     #[inline(always)]
     pub(crate) fn place(
         &self,
@@ -126,7 +126,7 @@ where
         made
     }
 
-    // The same of a piece's record, whose key has this hash, and which has this weight if its shard does not know it.
+    // Inserts a piece's record. Its key has this hash, and it has this weight if its shard does not know it.
     pub(crate) fn emplace_piece(
         &self,
         now: u64,

@@ -1,0 +1,85 @@
+//! The last words of an entry.
+
+ghost use Rattle.std.specs.Prelude.{◌≡◌, None, option_map};
+ghost use Rattle.std.specs.Arc.{arc_value};
+ghost use Rattle.foyer_core.specs.Tails.{share_of, source_of};
+
+use crate::share::Body;
+use foyer_policy::Source;
+use std::alloc::Global;
+use std::mem;
+use std::sync::Arc;
+
+/// Where an entry came from, where its record was, and perhaps a share for `left`.
+///
+/// Tag, source, spare and slot fill one word. An `Option` of a share, and a source behind it, would leave gaps, which the
+/// compiler copies byte by byte with every entry.
+#[derive(Drop)]
+pub enum Tail<K, V, P> {
+    /// No share.
+    Alone(Source, u16, u32),
+    /// A share for `left`.
+    Shared(Source, u16, u32, Arc<Body<K, V, P>, Global>),
+}
+
+const SPARE: u16 = 0;
+
+impl<K: Drop, V: Drop, P: Drop> Tail<K, V, P> {
+    #[inline(always)]
+    pub fn new(source: Source, slot: usize, share: Option<Arc<Body<K, V, P>, Global>>) -> Self
+        ensures source { source_of result ≡ source }
+        ensures share { share_of result ≡ option_map arc_value share }
+    {
+        match share {
+            Some(share) => Tail::Shared(source, SPARE, hint_of(slot), share),
+            None => Tail::Alone(source, SPARE, hint_of(slot)),
+        }
+    }
+
+    #[inline(always)]
+    pub fn source(&self) -> Source
+        ensures { result ≡ source_of self.now }
+    {
+        match self {
+            Tail::Alone(source, ..) | Tail::Shared(source, ..) => *source,
+        }
+    }
+
+    /// Returns the slot that the record may be in.
+    #[inline(always)]
+    pub fn slot(&self) -> usize {
+        match self {
+            Tail::Alone(_, _, slot) | Tail::Shared(_, _, slot, _) => *slot as usize,
+        }
+    }
+
+    #[inline(always)]
+    pub fn set_slot(&mut self, slot: usize)
+        ensures source { source_of self.new ≡ source_of self.old }
+        ensures share { share_of self.new ≡ share_of self.old }
+    {
+        match self {
+            Tail::Alone(_, _, hint) => *hint = hint_of(slot),
+            Tail::Shared(_, _, hint, _) => *hint = hint_of(slot),
+        }
+    }
+
+    /// Takes the share out.
+    pub fn take_share(&mut self) -> Option<Arc<Body<K, V, P>, Global>>
+        ensures share { option_map arc_value result ≡ share_of self.old }
+        ensures none { share_of self.new ≡ None }
+        ensures source { source_of self.new ≡ source_of self.old }
+    {
+        let rest = Tail::new(self.source(), self.slot(), None);
+        match mem::replace(self, rest) {
+            Tail::Alone(..) => None,
+            Tail::Shared(_, _, _, share) => Some(share),
+        }
+    }
+}
+
+// A slot as a hint, which may be wrong.
+#[inline(always)]
+fn hint_of(slot: usize) -> u32 {
+    u32::try_from(slot).unwrap_or(u32::MAX)
+}
