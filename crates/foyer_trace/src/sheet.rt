@@ -186,6 +186,8 @@ impl Merger {
     /// The report of all rows: policies in the order in which they came, each at each size.
     pub fn report(self, title: String) -> Result<Report, Failure> {
         let alloc = self.alloc;
+        let mut notes = Vec::new(alloc);
+        notes.push(self.facts()?)?;
         let mut policies: Vec<String> = Vec::new(alloc);
         let mut sizes: Vec<u64> = Vec::new(alloc);
         for row in &self.rows {
@@ -198,26 +200,13 @@ impl Merger {
             }
         }
         sizes.as_mut_slice().sort_unstable();
-        let is_even = self
-            .summands
-            .windows(2)
-            .all(|pair| pair.first() == pair.last());
-        if !is_even || self.rows.len() != policies.len().saturating_mul(sizes.len()) {
+        if !self.has_each(policies.len(), sizes.len()) {
             return Err(Failure::Other(format!(in alloc;
                 "the files have not each policy at each size equally often"
             )?));
         }
-        let mut notes = Vec::new(alloc);
-        notes.push(self.facts()?)?;
         let mut rows = self.rows;
-        let key = |row: &Row| {
-            let policy = policies.iter().position(|it| {
-                label_of(alloc, row).is_ok_and(|label| label.as_str() == it.as_str())
-            });
-            (policy, row.size)
-        };
-        rows.as_mut_slice()
-            .sort_unstable_by(|a, b| key(a).cmp(&key(b)));
+        put_in_order(alloc, rows.as_mut_slice(), &policies);
         Ok(Report {
             title,
             policies,
@@ -229,12 +218,30 @@ impl Merger {
         })
     }
 
+    // Whether each of so many policies has a row at each of so many sizes, and all are the sums of equally many.
+    fn has_each(&self, policies: usize, sizes: usize) -> bool {
+        let summands = self.summands.first();
+        self.rows.len() == policies.saturating_mul(sizes)
+            && self.summands.iter().all(|it| Some(it) == summands)
+    }
+
     // How many files there were, and how many gets they have together.
     fn facts(&self) -> Result<String, AllocError> {
         let gets = self.rows.iter().map(|it| it.requests).max().unwrap_or(0);
         let gets = grouped(self.alloc, gets as u128)?;
         format!(in self.alloc; "{gets} gets in {} files", self.files)
     }
+}
+
+// Puts rows in the order of these policies, and those of a policy in the order of their sizes.
+fn put_in_order(alloc: Global, rows: &mut [Row], policies: &Vec<String>) {
+    let key = |row: &Row| {
+        let policy = policies.iter().position(|it| {
+            label_of(alloc, row).is_ok_and(|label| label.as_str() == it.as_str())
+        });
+        (policy, row.size)
+    };
+    rows.sort_unstable_by(|a, b| key(a).cmp(&key(b)));
 }
 
 fn label_of(alloc: Global, row: &Row) -> Result<String, AllocError> {

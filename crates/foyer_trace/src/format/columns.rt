@@ -103,17 +103,21 @@ pub fn wanted_columns(alloc: Global, list: &str) -> Result<Wanted<'_>, Failure> 
             Some(number) => Place::Number((number as usize).saturating_sub(1)),
             None => Place::Name(place),
         };
-        if wanted.iter().any(|it: &(Role, Place<'_>)| it.0 == role) {
+        if has_role(wanted.as_slice(), role) {
             return Err(Failure::Usage(format!(in alloc;
                 "two columns are the {name}, in '{list}'"
             )?));
         }
         wanted.push((role, place))?;
     }
-    if !wanted.iter().any(|it| it.0 == Role::Key) {
+    if !has_role(wanted.as_slice(), Role::Key) {
         return Err(Failure::Usage(format!(in alloc; "no column is the key, in '{list}'")?));
     }
     Ok(wanted)
+}
+
+fn has_role(wanted: &[(Role, Place<'_>)], role: Role) -> bool {
+    wanted.iter().any(|it| it.0 == role)
 }
 
 /// The places of a trace's columns.
