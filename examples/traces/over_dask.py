@@ -47,6 +47,11 @@ def policies_of(words):
     return [*dict.fromkeys(found)]
 
 
+def distinct(texts):
+    """The CSV texts of single runs, each policy and size once: two sizes may come to as many records."""
+    return [*{tuple(it.splitlines()[1].split(",")[:3]): it for it in texts}.values()]
+
+
 def tasks_of(options, others):
     """What each task gives to foyer-trace."""
     if options.parts:
@@ -83,6 +88,8 @@ def main():
             client = ends.enter_context(Client(ends.enter_context(cluster)))
         tasks = [client.submit(rows_of, options.program, words, pure=False) for words in tasks_of(options, others)]
         texts = client.gather(tasks)
+    if not options.parts:
+        texts = distinct(texts)
     with tempfile.TemporaryDirectory() as folder:
         files = []
         for at, text in enumerate(texts):

@@ -63,6 +63,18 @@ def lines(keys):
     return "".join(f"{key}\n" for key in keys)
 
 
+def mix(number):
+    """The finalizer of splitmix64."""
+    number = (number ^ number >> 30) * 0xBF58476D1CE4E5B9 % 2**64
+    number = (number ^ number >> 27) * 0x94D049BB133111EB % 2**64
+    return number ^ number >> 31
+
+
+def place(key):
+    """Where a key stands among all hashes, from 0 to below 1, by which samples and parts are taken."""
+    return mix(mix(key) ^ 0x9E3779B97F4A7C15) / 2**64
+
+
 def model(keys, capacity, is_lru):
     """The hits of LRU or FIFO."""
     cache, hits = collections.OrderedDict(), 0
@@ -121,15 +133,15 @@ def belady_model(keys, capacity, operations=None):
     return hits
 
 
-def belady_by_heap(keys, capacity):
-    """The same hits of gets alone, in less time."""
+def belady_by_heap(keys, capacity, skipped=0):
+    """The same hits of gets alone, in less time, of those after the first `skipped`."""
     nexts, last = [0] * len(keys), {}
     for at in range(len(keys) - 1, -1, -1):
         nexts[at] = last.get(keys[at], len(keys))
         last[keys[at]] = at
     cache, heap, hits = {}, [], 0
     for at, key in enumerate(keys):
-        hits += key in cache
+        hits += at >= skipped and key in cache
         cache[key] = nexts[at]
         heapq.heappush(heap, (-nexts[at], key))
         while len(cache) > capacity:

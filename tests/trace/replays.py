@@ -18,6 +18,7 @@ from common import (
     keys_of,
     lines,
     model,
+    place,
     some_keys,
     weighed_model,
 )
@@ -50,6 +51,9 @@ def belady_is_the_least(program):
     keys = some_keys(150_000, 9000)
     hits = program.hits("-", "--policy", "belady", "--size", "20,900", data=lines(keys).encode())
     assert hits == {("belady", size): belady_by_heap(keys, size) for size in (20, 900)}, hits
+    # What is kept until its next get is hit then, or evicted before.
+    row = program.rows("-", "--policy", "belady", "--size", "20", data=lines(keys).encode())[0]
+    assert int(row["evictions"]) == len(keys) - len(set(keys)) - int(row["hits"]), row
     for keys in (some_keys(2000, 120), keys_of("sqlite.keys", 1500)):
         hits = program.hits("-", "--policy", "all,belady", "--size", "1,5,40", data=lines(keys).encode())
         for size in (1, 5, 40):
@@ -95,6 +99,20 @@ def weights_and_lives(program):
             assert {it: int(row[it]) for it in COUNTED} == {it: wanted[it] for it in COUNTED}, (ttl, row, wanted)
             assert row["byte_miss_ratio"] == f"{wanted['miss_bytes'] / wanted['bytes']:.6f}", row
             assert (wanted["expired"] > 600) == (ttl == 30 and row["size"] == "500")
+
+
+@case
+def lives_of_numbered_requests(program):
+    """Where a trace has no times, a record lives for so many requests; a life of 0 is for ever."""
+    keys = some_keys(3000, 200)
+    requests = [(at, key, 1) for at, key in enumerate(keys)]
+    names = [program.put("n.keys", lines(keys)), program.put("n.csv", "key\n" + lines(keys))]
+    wanted = weighed_model(requests, 100, 30)
+    for name in names:
+        row = program.rows(name, "--policy", "fifo", "--size", "100", "--ttl", "30")[0]
+        assert all(int(row[it]) == wanted[it] for it in ("hits", "misses", "evictions", "expired")), (name, row, wanted)
+    name = program.put("e.csv", "time,key,ttl\n" + "".join(f"{at},{key},0\n" for at, key in enumerate(keys)))
+    assert program.hits(name, "--policy", "fifo", "--size", "100") == {("fifo", 100): weighed_model(requests, 100)["hits"]}
 
 
 @case
@@ -144,11 +162,17 @@ def warmup(program):
     name = program.put("u.keys", lines(keys))
     words = [name, "--policy", "fifo", "--size", "20"]
     whole = program.rows(*words)[0]
+    row = program.rows(name, "--policy", "belady", "--size", "20", "--warmup", "2000")[0]
+    assert (row["requests"], int(row["hits"])) == ("2000", belady_by_heap(keys, 20, 2000)), row
     for word in ("0.5", "50%", "2000"):
         row = program.rows(*words, "--warmup", word)[0]
         assert int(row["requests"]) == 2000
         assert int(row["hits"]) == int(whole["hits"]) - model(keys[:2000], 20, False), row
-    assert program.rows(*words, "--warmup", "5000")[0]["requests"] == "0"
+    for more in ([], ["--stream"]):
+        said = "the warmup leaves none of the 4,000 requests to be counted"
+        program.fails(1, said, *words, "--warmup", "4000", *more)
+        assert program.rows(*words, "--warmup", "3999", *more)[0]["requests"] == "1"
+    assert program.rows(*words, "--warmup", "9000", "--part", "1/2")[0]["requests"] == "0"
     for warmup, wanted in (("1000", 3000), ("0.25", 3000), ("0", 4000)):
         rows = [program.rows(*words, "--warmup", warmup, "--part", f"{part}/4")[0] for part in range(1, 5)]
         assert abs(sum(int(it["requests"]) for it in rows) - wanted) <= 2, (warmup, rows)
@@ -167,6 +191,15 @@ def stream_is_the_same(program):
 
 
 @case
+def seconds_of_a_stream(program):
+    """The seconds of a stream's run are those of all its parts, ten here, and so about those of the trace in memory."""
+    name = program.put("s.keys", lines(some_keys(7000, 300) * 100))
+    words = [name, "--policy", "lfu", "--size", "50"]
+    kept = min(float(program.rows(*words)[0]["seconds"]) for _ in range(2))
+    assert float(program.rows(*words, "--stream")[0]["seconds"]) > kept / 4
+
+
+@case
 def sample(program):
     """A sample of everything is everything, and a tenth is near."""
     rng = random.Random(3)
@@ -180,6 +213,22 @@ def sample(program):
         assert int(b["requests"]) == 20_000
     assert "a sample of 0.1 of the keys, sizes scaled" in program.call(*words, "--sample", "0.1", "--svg", "m.svg")[1]
     assert "a sample of 0.1 of the keys, sizes scaled" in (program.folder / "m.svg").read_text()
+
+
+@case
+def samples_are_smaller_caches(program):
+    """A part, or a sample, of the keys over a part of the capacity, by a plain model of FIFO."""
+    requests = [(at, key, 1 + key % 90) for at, key in enumerate(some_keys(20_000, 3000))]
+    name = program.put("s.csv", "key,size\n" + "".join(f"{key},{size}\n" for _, key, size in requests))
+    words = [name, "--policy", "fifo", "--weigh", "size", "--size", "8000"]
+    for part in (1, 2, 3, 4):
+        sampled = [it for it in requests if part - 1 <= 4 * place(it[1]) < part]
+        wanted, row = weighed_model(sampled, 2000), program.rows(*words, "--part", f"{part}/4")[0]
+        assert sampled and all(int(row[it]) == wanted[it] for it in COUNTED), (part, row, wanted)
+    sampled = [it for it in requests if place(it[1]) < 0.1]
+    wanted, row = weighed_model(sampled, 800), program.rows(*words, "--sample", "0.1")[0]
+    assert all(int(row[it]) == wanted[it] for it in ("misses", "miss_bytes", "evictions")), (row, wanted)
+    assert int(row["requests"]) == 2000 and abs(int(row["bytes"]) - sum(size for *_, size in requests) / 10) <= 1, row
 
 
 @case
@@ -213,6 +262,48 @@ def parts_and_merge(program):
 
 
 @case
+def parts_of_few_keys(program):
+    """A part that no key falls into is a part, too."""
+    name = program.put("two.keys", lines([1, 2] * 50))
+    parts = [f"p{part}.csv" for part in range(1, 9)]
+    for words in (["--size", "16"], ["--size", "8.0"], ["--size", "16", "--stream"]):
+        for part, out in enumerate(parts, 1):
+            status, _, said = program.call(name, "--policy", "fifo", *words, "--part", f"{part}/8", "--csv", out)
+            assert status == 0, said
+        assert program.hits("--merge", *parts) == {("fifo", 16): 98}
+    program.fails(1, "no request is in the sample", name, "--sample", "0.000001")
+
+
+@case
+def merged_files_fit(program):
+    """Files that lack a policy or a size, or have other units, are not added up; a size may come in any order."""
+    program.put("k.keys", lines(some_keys()))
+    for name, *words in (
+        ["one.csv", "k.keys", "--policy", "lru,fifo", "--size", "9,40"],
+        ["lru.csv", "k.keys", "--policy", "lru", "--size", "9,40"],
+        ["other.csv", "k.keys", "--policy", "fifo,lru", "--size", "40"],
+        ["large.csv", "k.keys", "--policy", "fifo,lru", "--size", "40"],
+        ["small.csv", "k.keys", "--policy", "fifo,lru", "--size", "9"],
+        ["sized.csv", TRACES / "build.csv", "--policy", "fifo,lru", "--size", "9"],
+        ["bytes.csv", TRACES / "build.csv", "--policy", "fifo,lru", "--size", "9", "--weigh", "size"],
+    ):
+        assert program.call(*words, "--csv", name)[0] == 0, name
+    header = (program.folder / "one.csv").read_text().split("\n")[0]
+    uneven = "the files have not each policy at each size equally often"
+    program.fails(1, uneven, "--merge", "one.csv", "lru.csv")
+    program.fails(1, uneven, "--merge", "one.csv", "large.csv")
+    program.fails(1, uneven, "--merge", "lru.csv", "large.csv")
+    before = "line 2: expected the unit and the columns of the rows before it"
+    program.fails(1, f"sized.csv: {before}", "--merge", "small.csv", "sized.csv")
+    program.fails(1, f"bytes.csv: {before}", "--merge", "sized.csv", "bytes.csv")
+    program.fails(1, "no.csv: line 2: expected a row", "--merge", "one.csv", program.put("no.csv", header + "\n"))
+    assert "by cache size in bytes" in program.call("--merge", "bytes.csv", "bytes.csv")[1]
+    table = program.call("--merge", "large.csv", "small.csv")[1]
+    assert table.split("\n\n")[1] == program.call("k.keys", "--policy", "fifo,lru", "--size", "9,40")[1].split("\n\n")[1]
+    assert program.call("--merge", "one.csv", "one.csv")[1].endswith("\n8,000 gets in 2 files\n")
+
+
+@case
 def dask(program):
     """Two workers on this machine make the table of one process; skipped where Dask isn't installed."""
     python = next(
@@ -229,7 +320,7 @@ def dask(program):
         return
     script, trace = ROOT / "examples/traces/over_dask.py", TRACES / "build.csv"
     words = [python, script, "--program", program.path, "--workers", "2"]
-    words += [trace, "--policy", "lru,sieve,lru", "--size", "10,100"]
+    words += [trace, "--policy", "lru,sieve,lru", "--size", "10,0.001,100,0.0001"]
     table = program.call(*words[6:], "--quiet")[1].split("\n\n")[1]
     called = {"capture_output": True, "text": True, "timeout": 200, "check": False}
     ended = subprocess.run([*map(str, words), "--csv", program.folder / "dask.csv"], **called)

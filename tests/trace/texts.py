@@ -1,6 +1,8 @@
 """What the program reads and writes: formats, bad input, options, pictures, tables and synthetic traces."""
 import collections
+import html
 import re
+import shlex
 import struct
 import subprocess
 import xml.etree.ElementTree as xml
@@ -75,6 +77,12 @@ def bad_input(program):
     program.fails(
         1, "record 1: expected a number below 2^64 in the column size, and found '-1'", program.put("n.csv", "1,2,-1\n")
     )
+    program.fails(
+        1,
+        "record 1: expected a number below 2^64 in the column time, and found 'when'; --columns says which column is what",
+        program.put("w.csv", "when,what\n1,2\n"),
+    )
+    program.fails(1, "record 2: expected a value in the column key, and found ''\n", program.put("v.csv", "1,2\n3\n"))
     past = "18446744073709551616"
     program.fails(1, f"column size, and found '{past}'", program.put("q.csv", f"1,2,{past}\n"))
     program.fails(1, "expected a value in the column size", program.put("s.csv", "time,key,size\n1,2\n"))
@@ -105,6 +113,8 @@ def bad_words(program):
     trace = program.put("k.keys", "1\n2\n")
     for said, *words in [
         ("unknown policy 'lur': did you mean 'lru'?", "--policy", "lur"),
+        ("unknown policy 'S3FIFO': did you mean 's3fifo'?", "--policy", "S3FIFO"),
+        ("unknown policy 'LRU': did you mean 'lru'?", "--policy", "LRU"),
         ("',' names no policy", "--policy", ","),
         ("unknown parameter of s3fifo 'smal': did you mean 'small'?", "--policy", "s3fifo:smal=1/10"),
         ("small must be a share such as 1/10 or 0.1", "--policy", "s3fifo:small=x"),
@@ -133,9 +143,55 @@ def bad_words(program):
     program.fails(2, "the header has no column 'whom' (it has when, what)", table, "--columns", "time=when,key=whom")
     program.fails(2, "unknown column 'kye': did you mean 'key'?", table, "--columns", "kye")
     program.fails(2, "no column is the key", table, "--columns", "time")
+    program.fails(2, "two columns are the key, in 'time,key,key=1'", table, "--columns", "time,key,key=1")
+    for text in ("time;key\n1;2\n", "1\t2\n3\t4\n"):
+        table = program.put("k.csv", text)
+        program.fails(2, "the first row has no comma", table)
+        assert program.rows(table, "--columns", "key", "--policy", "lru", "--size", "9")[0]["requests"] == "2"
+    for ending, reader in (("zst", "zstdcat"), ("gz", "zcat"), ("xz", "xzcat"), ("bz2", "bzcat")):
+        said = f"t.keys.{ending} is compressed: say {reader} t.keys.{ending} | foyer-trace -"
+        for words in ([], ["--format", "keys"]):
+            program.fails(2, said, program.put(f"t.keys.{ending}", "1\n"), *words)
     program.fails(2, "unknown kind of trace 'zip': did you mean 'zipf'?", "--make", "zip:ops=1")
     program.fails(2, "unknown parameter of zipf 'key': did you mean 'keys'?", "--make", "zipf:key=1")
     program.fails(2, "--merge takes the files", "--merge")
+
+
+@case
+def units_of_numbers(program):
+    """What each unit is, at the ends of its range."""
+    tens = {"k": 3, "K": 3, "kB": 3, "KB": 3, "m": 6, "M": 6, "MB": 6, "g": 9, "G": 9, "GB": 9, "T": 12, "TB": 12}
+    units = {unit: 10**power for unit, power in tens.items()}
+    units |= {"": 1, "B": 1, "KiB": 2**10, "MiB": 2**20, "GiB": 2**30, "TiB": 2**40}
+    name = program.put("u.keys", "1\n")
+    for unit, factor in units.items():
+        most = (2**64 - 1) // factor
+        sizes = [int(it["size"]) for it in program.rows(name, "--policy", "fifo", "--size", f"0{unit},3{unit},{most}{unit}")]
+        assert sizes == [0, 3 * factor, most * factor], (unit, sizes)
+        program.fails(2, "a size must be a number", name, "--size", f"{most + 1}{unit}")
+    program.fails(2, "a size must be a number", name, "--size", "1MIB")
+
+
+@case
+def parameters(program):
+    """Each parameter that is said as it is by default changes nothing, and as it isn't, something of its own."""
+    name, sizes = TRACES / "sqlite.keys", ["--size", "53,176"]
+    words = {
+        "lru": ["high=0.9", "high=0.3"],
+        "lfu": ["window=1/10", "protected=8/10", "buckets=2719", "hashes=3"],
+        "s3fifo": ["small=1/10", "ghost=1/1", "threshold=1"],
+    }
+    others = ["window=1/20", "protected=4/10", "buckets=50", "hashes=1", "small=1/3", "ghost=1/50", "threshold=3"]
+    for policy, defaults in words.items():
+        default = program.hits(name, "--policy", policy, *sizes)
+        seen = [default]
+        for word in defaults[: 1 if policy == "lru" else None]:
+            assert program.hits(name, "--policy", f"{policy}:{word}", *sizes) == default, word
+        kinds = {it.split("=")[0] for it in defaults}
+        for word in [it for it in others + ["high=0.3"] if it.split("=")[0] in kinds]:
+            found = program.hits(name, "--policy", f"{policy}:{word}", *sizes)
+            assert found not in seen, word
+            seen.append(found)
 
 
 @case
@@ -158,15 +214,17 @@ def pictures(program):
         "--html",
         "p.html",
         "--title",
-        'a <b> & "c"',
+        "a <b> & \"c\" 'd'",
     ]
     status, said, _ = program.call(*words)
-    assert status == 0 and said.startswith('a <b> & "c": ')
+    assert status == 0 and said.startswith("a <b> & \"c\" 'd': ")
     picture = xml.parse(program.folder / "p.svg").getroot()
     assert picture.tag.endswith("svg") and len(picture.findall(".//{*}polyline")) == 14
     assert {"miss ratio", "byte miss ratio", "s3fifo (small=1/4)"} <= {it.text for it in picture.findall(".//{*}text")}
     page = (program.folder / "p.html").read_text()
-    assert page.count("<table>") == 2 and "--title" in page and "<polyline" in page
+    assert page.count("<table>") == 2 and "<polyline" in page
+    command = html.unescape(re.search("<pre>foyer-trace (.*)</pre>", page, re.S)[1])
+    assert shlex.split(command) == [str(it) for it in words], command
     assert not re.search(r"(src|href)=|@import|url\(", page)
     assert "http" not in page.replace("http://www.w3.org/2000/svg", "")
 
@@ -224,6 +282,16 @@ def table_marks_the_least(program):
         assert all(it.endswith("*") == (float(it.rstrip("*")) == least) for it in ratios.values()), ratios
     assert "seconds" not in said and " a second" not in said
     assert "million requests a second" in program.call(TRACES / "sqlite.keys", "--policy", "fifo")[1]
+
+
+@case
+def columns_line_up(program):
+    """A size of any length stands above its ratios."""
+    words = ["--policy", "fifo,lru:high=0.5", "--size", "1,10000000000,18446744073709551615", "--quiet"]
+    table = program.call(TRACES / "sqlite.keys", *words)[1].split("\n\n")[1].splitlines()[1:]
+    ends = [[it.end() for it in re.finditer(r"(?<= )[0-9]+(\.[0-9]{4})?", line)] for line in table]
+    assert len(ends) == 3 and len(ends[0]) == 3 and ends[0] == ends[1] == ends[2], table
+    assert "16.0 EiB" in program.call(TRACES / "build.csv", "--weigh", "size", *words)[1]
 
 
 @case

@@ -21,8 +21,8 @@ The trace
 
 What is run
   --policy LIST     all (default: fifo,lru,lfu,s3fifo,sieve), some of these, or belady (the least possible misses);
-                    parameters follow the name: lru:high=0.5  lfu:window=1/100,protected=8/10,buckets=2719,hashes=3
-                    s3fifo:small=1/10,ghost=1/1,threshold=1
+                    parameters follow the name: lru:high=1.0 (textbook LRU; default 0.9)
+                    lfu:window=1/100,protected=8/10,buckets=2719,hashes=3  s3fifo:small=1/10,ghost=1/1,threshold=1
   --size LIST       numbers of records or bytes such as 10k or 64MiB, or parts of the footprint, which is all keys
                     together (default 0.001,0.003,0.01,0.03,0.1,0.3)
   --shards N        how many shards each cache has (default 1)

@@ -4,11 +4,12 @@ use crate::failure::Failure;
 use std::alloc::{AllocError, Global};
 use strsim::levenshtein;
 
-/// The known word with the fewest edits to the given one.
+/// The known word with the fewest edits to the given one, in small letters.
 fn nearest<'a>(alloc: Global, word: &str, known: &[&'a str]) -> Result<&'a str, AllocError> {
+    let word = word.to_ascii_lowercase(alloc)?;
     let mut best = ("", usize::MAX);
     for it in known {
-        let edits = levenshtein(alloc, word, it)?;
+        let edits = levenshtein(alloc, word.as_str(), it)?;
         if edits < best.1 {
             best = (*it, edits);
         }

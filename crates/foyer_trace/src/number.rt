@@ -146,7 +146,7 @@ pub fn grouped(alloc: Global, number: u128) -> Result<String, AllocError> {
 pub fn bytes(alloc: Global, number: u128) -> Result<String, AllocError> {
     let mut value = float(number);
     let mut unit = "B";
-    for next in ["KiB", "MiB", "GiB", "TiB", "PiB"] {
+    for next in ["KiB", "MiB", "GiB", "TiB", "PiB", "EiB"] {
         if value < 1024.0 {
             break;
         }

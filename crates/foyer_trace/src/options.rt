@@ -138,6 +138,7 @@ fn replay_of<'a>(
     matches: &ArgMatches<'a>,
     path: &'a str,
 ) -> Result<Replay<'a>, Failure> {
+    check_path(alloc, path)?;
     let format = match matches.get_str("format") {
         Some(name) => Format::of_name(alloc, name)?,
         None => Format::of_path(alloc, path)?,
@@ -168,6 +169,24 @@ fn replay_of<'a>(
     };
     replay.check(alloc)?;
     Ok(replay)
+}
+
+// Whether a file can be read as it is, which a compressed one can't.
+fn check_path(alloc: Global, path: &str) -> Result<(), Failure> {
+    const READERS: [(&str, &str); 4] = [
+        (".zst", "zstdcat"),
+        (".gz", "zcat"),
+        (".xz", "xzcat"),
+        (".bz2", "bzcat"),
+    ];
+    for (ending, reader) in READERS {
+        if path.ends_with(ending) {
+            return Err(Failure::Usage(format!(in alloc;
+                "{path} is compressed: say {reader} {path} | foyer-trace - --format .."
+            )?));
+        }
+    }
+    Ok(())
 }
 
 impl Replay<'_> {

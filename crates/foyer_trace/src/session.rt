@@ -81,6 +81,7 @@ fn replay_kept<R: AllocGlobal + Clock + Eprint + Threads + Sync, B: BufRead + Dr
     let trace = source.read_all()?;
     check_totals(alloc, replay, &trace.totals)?;
     let plan = plan_of(alloc, replay, &trace.totals)?;
+    check_warmup(alloc, replay, &plan, &trace.totals)?;
     let all = trace.totals.records.saturating_mul(plan.runs() as u64);
     let progress = Progress::new(
         ground.rt,
@@ -120,6 +121,7 @@ fn replay_stream<R: AllocGlobal + Clock + Eprint + Threads + Sync, B: BufRead + 
     let seconds = since(ground.rt, &start);
     let totals = source.totals();
     check_totals(alloc, replay, &totals)?;
+    check_warmup(alloc, replay, &plan, &totals)?;
     report_of(ground, replay, &plan, measured, totals, jobs, seconds)
 }
 
@@ -146,7 +148,8 @@ fn check_totals(alloc: Global, replay: &Replay<'_>, totals: &Totals) -> Result<(
             replay.path
         )?));
     }
-    if totals.records == 0 {
+    // A part may have no keys, and is added to the others all the same.
+    if totals.records == 0 && !replay.is_part {
         return Err(Failure::Other(format!(in alloc;
             "{}: no request is in the sample",
             replay.path
@@ -161,6 +164,22 @@ fn check_totals(alloc: Global, replay: &Replay<'_>, totals: &Totals) -> Result<(
         )?));
     }
     Ok(())
+}
+
+// Whether something is counted. A part may have fewer requests than its share of the warmup.
+fn check_warmup(
+    alloc: Global,
+    replay: &Replay<'_>,
+    plan: &Plan<'_>,
+    totals: &Totals,
+) -> Result<(), Failure> {
+    if replay.is_part || plan.warmup < totals.records {
+        return Ok(());
+    }
+    let requests = grouped(alloc, totals.records as u128)?;
+    Err(Failure::Other(format!(in alloc;
+        "the warmup leaves none of the {requests} requests to be counted"
+    )?))
 }
 
 fn report_of<R>(

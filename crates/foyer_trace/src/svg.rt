@@ -5,13 +5,13 @@ use crate::number::float;
 use crate::report::{Measure, Report, Row};
 use std::alloc::{AllocError, Global};
 
-const WIDTH: f64 = 760.0;
+const WIDTH: f64 = 776.0;
 
 const HEIGHT: f64 = 430.0;
 
-const LEFT: f64 = 70.0;
+const LEFT: f64 = 86.0;
 
-const RIGHT: f64 = 575.0;
+const RIGHT: f64 = 591.0;
 
 const TOP: f64 = 46.0;
 
@@ -78,8 +78,17 @@ struct Scale {
     // The logarithms of the least and the greatest size.
     low: f64,
     high: f64,
+    ratios: Ratios,
+}
+
+/// The axis of ratios.
+#[derive(Clone, Copy)]
+struct Ratios {
     // The ratio at the top.
     most: f64,
+    // How many steps lead up to it, and the decimal places that tell them apart.
+    steps: u32,
+    places: usize,
 }
 
 impl Scale {
@@ -98,7 +107,7 @@ impl Scale {
         Scale {
             low,
             high,
-            most: rounded_up(most),
+            ratios: ratios_up_to(most),
         }
     }
 
@@ -108,18 +117,36 @@ impl Scale {
     }
 
     fn y(self, ratio: f64) -> f64 {
-        BOTTOM - (BOTTOM - TOP) * ratio / self.most
+        BOTTOM - (BOTTOM - TOP) * ratio / self.ratios.most
     }
 }
 
-// The next of 1, 0.8, 0.5, 0.4, 0.2, 0.1, 0.08 and so on that is not below a ratio.
-fn rounded_up(ratio: f64) -> f64 {
+// The axis whose top is the next of 1, 0.8, 0.5, 0.4, 0.2, 0.1, 0.08 and so on that is not below a ratio. A ratio of 0 has
+// the whole axis.
+fn ratios_up_to(ratio: f64) -> Ratios {
+    let mut best = Ratios {
+        most: 1.0,
+        steps: 5,
+        places: 1,
+    };
+    if ratio <= 0.0 {
+        return best;
+    }
     let mut power = 1.0;
-    let mut best = 1.0;
-    for _place in 0..8 {
-        for step in [1.0, 0.8, 0.5, 0.4, 0.2] {
-            if step * power >= ratio {
-                best = step * power;
+    for place in 1..5usize {
+        for (most, steps, more) in [
+            (1.0, 5u32, 0usize),
+            (0.8, 4, 0),
+            (0.5, 5, 0),
+            (0.4, 4, 0),
+            (0.2, 4, 1),
+        ] {
+            if most * power >= ratio {
+                best = Ratios {
+                    most: most * power,
+                    steps,
+                    places: place.saturating_add(more),
+                };
             }
         }
         power = power / 10.0;
@@ -152,27 +179,20 @@ fn push_panel(
 
 // The axis of ratios, with a line across for each tick.
 fn push_ratios(text: &mut String, scale: Scale, measure: Measure) -> Result<(), AllocError> {
-    let places = if scale.most > 0.3 {
-        1usize
-    } else if scale.most > 0.03 {
-        2
-    } else {
-        4
-    };
-    let steps = if scale.most > 0.9 * 0.8 && scale.most < 0.9 {
-        4u32
-    } else {
-        5
-    };
+    let Ratios {
+        most,
+        steps,
+        places,
+    } = scale.ratios;
     for step in 0..=steps {
-        let ratio = scale.most * step as f64 / steps as f64;
+        let ratio = most * step as f64 / steps as f64;
         push_ratio(text, ratio, scale.y(ratio), places)?;
     }
     let middle = (TOP + BOTTOM) / 2.0;
     let name = measure.name();
     write!(
         text,
-        "<text transform=\"translate(20 {middle:.0}) rotate(-90)\" text-anchor=\"middle\">{name}</text>\n"
+        "<text transform=\"translate(16 {middle:.0}) rotate(-90)\" text-anchor=\"middle\">{name}</text>\n"
     )?;
     write!(
         text,
@@ -197,41 +217,35 @@ fn push_ratio(text: &mut String, ratio: f64, y: f64, places: usize) -> Result<()
     text.push_str("</text>\n")
 }
 
-// The axis of sizes, by powers of ten; between them by 2 and 5, or by 2, 3, 5 and 7, where there is room.
+// The axis of sizes, by powers of ten; between them by 2 and 5, or by 2, 3, 5 and 7, where there is room. Labels stand as
+// close as they don't touch.
 fn push_sizes(
     alloc: Global,
     text: &mut String,
     report: &Report,
     scale: Scale,
 ) -> Result<(), AllocError> {
-    let mut power = 1.0f64;
-    let is_fine = scale.high - scale.low < 3.2;
-    let steps = if scale.high - scale.low < 1.0 {
+    let span = scale.high - scale.low;
+    let steps = if span < 1.0 {
         &[1.0, 2.0, 3.0, 5.0, 7.0][..]
     } else {
         &[1.0, 2.0, 5.0]
     };
-    for _power in 0..20 {
+    let labels_all = span < if report.is_in_bytes { 2.5 } else { 3.2 };
+    let powers_a_label = if span < 8.0 { 1 } else { 3u32 };
+    let mut power = 1.0f64;
+    for place in 0..20u32 {
         for step in steps {
-            let step = *step;
-            let size = power * step;
+            let size = power * *step;
             let at = size.log10();
             if at < scale.low - 0.001 || at > scale.high + 0.001 {
                 continue;
             }
-            let x = scale.x(size);
-            let end = BOTTOM + if step < 1.5 { 7.0 } else { 4.0 };
-            write!(
-                text,
-                "<line x1=\"{x:.1}\" y1=\"{BOTTOM:.0}\" x2=\"{x:.1}\" y2=\"{end:.0}\" stroke=\"#333333\"/>\n"
-            )?;
-            if is_fine || step < 1.5 {
+            let is_power = *step < 1.5;
+            push_tick(text, scale.x(size), is_power)?;
+            if labels_all || is_power && place % powers_a_label == 0 {
                 let label = short(alloc, size, report.is_in_bytes)?;
-                let down = BOTTOM + 22.0;
-                write!(
-                    text,
-                    "<text x=\"{x:.1}\" y=\"{down:.0}\" text-anchor=\"middle\">{label}</text>\n"
-                )?;
+                push_size(text, scale.x(size), label.as_str())?;
             }
         }
         power = power * 10.0;
@@ -245,11 +259,29 @@ fn push_sizes(
     )
 }
 
+// A tick of the axis of sizes.
+fn push_tick(text: &mut String, x: f64, is_power: bool) -> Result<(), AllocError> {
+    let end = BOTTOM + if is_power { 7.0 } else { 4.0 };
+    write!(
+        text,
+        "<line x1=\"{x:.1}\" y1=\"{BOTTOM:.0}\" x2=\"{x:.1}\" y2=\"{end:.0}\" stroke=\"#333333\"/>\n"
+    )
+}
+
+// A label of the axis of sizes.
+fn push_size(text: &mut String, x: f64, label: &str) -> Result<(), AllocError> {
+    let down = BOTTOM + 22.0;
+    write!(
+        text,
+        "<text x=\"{x:.1}\" y=\"{down:.0}\" text-anchor=\"middle\">{label}</text>\n"
+    )
+}
+
 // A size with a decimal unit, such as `20k` or `1 MB`.
 fn short(alloc: Global, size: f64, is_in_bytes: bool) -> Result<String, AllocError> {
     let mut value = size;
     let mut unit = "";
-    for next in ["k", "M", "G", "T", "P"] {
+    for next in ["k", "M", "G", "T", "P", "E"] {
         if value < 999.5 {
             break;
         }

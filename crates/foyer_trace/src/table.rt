@@ -41,9 +41,10 @@ fn push_table(
         "{name} by cache size in {unit}; * is the least of its column\n"
     )?;
     write!(text, "{:labels$}", "")?;
+    let width = column_width(alloc, report)?;
     for size in &report.sizes {
         let size = report.size_text(alloc, *size)?;
-        write!(text, "  {size:>9} ")?;
+        write!(text, "  {size:>width$} ")?;
     }
     end_line(text)?;
     for (policy, label) in report.policies.iter().enumerate() {
@@ -55,11 +56,20 @@ fn push_table(
                 .is_some_and(|least| least.as_str() == ratio.as_str());
             let is_marked = is_least && row.policy.as_str() != "belady";
             let mark = if is_marked { '*' } else { ' ' };
-            write!(text, "  {ratio:>9}{mark}")?;
+            write!(text, "  {ratio:>width$}{mark}")?;
         }
         end_line(text)?;
     }
     Ok(())
+}
+
+// How wide a column is, which has room for the longest size.
+fn column_width(alloc: Global, report: &Report) -> Result<usize, AllocError> {
+    let mut width = 9;
+    for size in &report.sizes {
+        width = width.max(report.size_text(alloc, *size)?.len());
+    }
+    Ok(width)
 }
 
 // Ends a line, without spaces at its end.

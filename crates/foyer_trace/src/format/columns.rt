@@ -103,12 +103,21 @@ pub fn wanted_columns(alloc: Global, list: &str) -> Result<Wanted<'_>, Failure> 
             Some(number) => Place::Number((number as usize).saturating_sub(1)),
             None => Place::Name(place),
         };
+        if has_role(wanted.as_slice(), role) {
+            return Err(Failure::Usage(format!(in alloc;
+                "two columns are the {name}, in '{list}'"
+            )?));
+        }
         wanted.push((role, place))?;
     }
-    if !wanted.iter().any(|it| it.0 == Role::Key) {
+    if !has_role(wanted.as_slice(), Role::Key) {
         return Err(Failure::Usage(format!(in alloc; "no column is the key, in '{list}'")?));
     }
     Ok(wanted)
+}
+
+fn has_role(wanted: &[(Role, Place<'_>)], role: Role) -> bool {
+    wanted.iter().any(|it| it.0 == role)
 }
 
 /// The places of a trace's columns.
@@ -166,6 +175,7 @@ pub fn columns_of(
 ) -> Result<(Columns, bool), Failure> {
     let mut columns = Columns::default();
     let Some(wanted) = wanted else {
+        check_commas(alloc, first)?;
         return Ok(columns_by_header(first).unwrap_or((columns_by_count(first.len()), false)));
     };
     let mut has_names = false;
@@ -179,6 +189,17 @@ pub fn columns_of(
         }
     }
     Ok((columns, has_names || columns.are_headed_by(first)))
+}
+
+// Whether a row seems to have commas between its columns, and not something else.
+fn check_commas(alloc: Global, row: &ByteRecord) -> Result<(), Failure> {
+    let field = row.get(0).unwrap_or(&[]);
+    if row.len() > 1 || !field.iter().any(|byte| matches!(byte, b';' | b'\t')) {
+        return Ok(());
+    }
+    Err(Failure::Usage(format!(in alloc;
+        "the first row has no comma: put commas between columns, or say --columns key"
+    )?))
 }
 
 // The columns that a header names, if the row is one. Where several have names of one role, the best name is taken.

@@ -85,10 +85,15 @@ impl<R: Read + Drop> CsvReader<R> {
     #[cold]
     fn bad(&self, role: Role, expected: &str, found: &[u8]) -> Failure {
         let name = role.name();
+        let hint = if self.time <= 1 {
+            "; --columns says which column is what"
+        } else {
+            ""
+        };
         let shown = &found[..found.len().min(40)];
         let text = match String::from_utf8_lossy(self.alloc, shown) {
             Ok(found) => format!(in self.alloc;
-                "expected {expected} in the column {name}, and found '{found}'"
+                "expected {expected} in the column {name}, and found '{found}'{hint}"
             ),
             Err(error) => Err(error),
         };
