@@ -1,6 +1,7 @@
 //! The arguments of the benchmark.
 
 use crate::moment::Life;
+use foyer_policy::{EvictionConfig, FifoConfig, LfuConfig, LruConfig, S3FifoConfig, SieveConfig};
 
 /// The policy of a cache, in its default configuration.
 #[derive(Clone, Copy, Debug, PartialEq, Eq)]
@@ -15,6 +16,19 @@ pub enum Policy {
     S3Fifo,
     /// Sieve: a queue with a hand.
     Sieve,
+}
+
+impl Policy {
+    /// Returns its default configuration.
+    pub fn config(self) -> EvictionConfig {
+        match self {
+            Policy::Fifo => EvictionConfig::Fifo(FifoConfig::default()),
+            Policy::Lru => EvictionConfig::Lru(LruConfig::default()),
+            Policy::Lfu => EvictionConfig::Lfu(LfuConfig::default()),
+            Policy::S3Fifo => EvictionConfig::S3Fifo(S3FifoConfig::default()),
+            Policy::Sieve => EvictionConfig::Sieve(SieveConfig::default()),
+        }
+    }
 }
 
 /// What gives the keys their hashes.

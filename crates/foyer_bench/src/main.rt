@@ -4,8 +4,7 @@
 
 use foyer_core::RawCacheConfig;
 use foyer_policy::{
-    AnyEviction, DefaultHasher, Eviction, EvictionConfig, Fifo, FifoConfig, HashBuilder, Lfu,
-    LfuConfig, Lru, LruConfig, ModHasher, S3Fifo, S3FifoConfig, Sieve, SieveConfig,
+    AnyEviction, DefaultHasher, Eviction, Fifo, HashBuilder, Lfu, Lru, ModHasher, S3Fifo, Sieve,
 };
 use foyer_raw::{NoListener, RawCache};
 use std::env::{self, Env};
@@ -179,18 +178,8 @@ fn shared<'a, R: AllocGlobal + Wait, S: HashBuilder + Default>(
 ) -> Result<RawCache<&'a R, AnyEviction, u64, u64, S>, Failure> {
     let config = RawCacheConfig {
         shards: args.shards as usize,
-        eviction_config: config_of(args.policy),
+        eviction_config: args.policy.config(),
         ..RawCacheConfig::new(args.capacity as usize)
     };
     Ok(RawCache::new(rt, rt.alloc(), config, NoListener::new())?)
-}
-
-fn config_of(policy: Policy) -> EvictionConfig {
-    match policy {
-        Policy::Fifo => EvictionConfig::Fifo(FifoConfig::default()),
-        Policy::Lru => EvictionConfig::Lru(LruConfig::default()),
-        Policy::Lfu => EvictionConfig::Lfu(LfuConfig::default()),
-        Policy::S3Fifo => EvictionConfig::S3Fifo(S3FifoConfig::default()),
-        Policy::Sieve => EvictionConfig::Sieve(SieveConfig::default()),
-    }
 }

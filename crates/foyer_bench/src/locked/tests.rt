@@ -1,31 +1,30 @@
 use super::*;
-use crate::args::Skew;
+use crate::args::{Policy, Skew};
 use crate::moment::Life;
 use crate::trace::{Ranks, keys_of};
 use foyer_core::RawCacheConfig;
-use foyer_policy::{Fifo, Lfu, Lru, ModHasher, S3Fifo, Sieve};
+use foyer_policy::{AnyEviction, ModHasher};
 use foyer_raw::NoListener;
 use std::test::Fail;
 
 // How many of two thousand keys one thread finds in a cache of capacity 20, where records live so long.
-fn hits<H: Wait + Drop, E: Eviction>(
+fn hits<H: Wait + Drop>(
     rt: H,
     alloc: Global,
+    policy: Policy,
     shards: usize,
     life: Life,
-) -> std::result::Result<usize, Fail>
-where
-    E::Config: Default,
-{
+) -> std::result::Result<usize, Fail> {
     let Ok(ranks) = Ranks::new(alloc, 200, Skew { num: 9, den: 10 }) else {
         return Ok(0);
     };
     let keys = keys_of(alloc, &ranks, 1, 2_000)?;
     let config = RawCacheConfig {
         shards,
+        eviction_config: policy.config(),
         ..RawCacheConfig::new(20)
     };
-    let cache: RawCache<H, E, u64, u64, ModHasher> = RawCache::new(
+    let cache: RawCache<H, AnyEviction, u64, u64, ModHasher> = RawCache::new(
         rt,
         alloc,
         config,
@@ -38,11 +37,11 @@ where
 #[test]
 fn one_thread(rt: HostRuntime) -> std::result::Result<(), Fail> {
     let alloc = rt.alloc();
-    assert_eq!(rt; hits::<_, Fifo>(&rt, alloc, 1, Life::Ever)?, 721);
-    assert_eq!(rt; hits::<_, Lru>(&rt, alloc, 1, Life::Ever)?, 807);
-    assert_eq!(rt; hits::<_, Lfu>(&rt, alloc, 3, Life::Ever)?, 946);
-    assert_eq!(rt; hits::<_, S3Fifo>(&rt, alloc, 3, Life::Ever)?, 981);
-    assert_eq!(rt; hits::<_, Sieve>(&rt, alloc, 3, Life::Ever)?, 963);
+    assert_eq!(rt; hits(&rt, alloc, Policy::Fifo, 1, Life::Ever)?, 721);
+    assert_eq!(rt; hits(&rt, alloc, Policy::Lru, 1, Life::Ever)?, 807);
+    assert_eq!(rt; hits(&rt, alloc, Policy::Lfu, 3, Life::Ever)?, 946);
+    assert_eq!(rt; hits(&rt, alloc, Policy::S3Fifo, 3, Life::Ever)?, 981);
+    assert_eq!(rt; hits(&rt, alloc, Policy::Sieve, 3, Life::Ever)?, 963);
     Ok(())
 }
 
@@ -50,9 +49,9 @@ fn one_thread(rt: HostRuntime) -> std::result::Result<(), Fail> {
 #[test]
 fn where_records_expire(rt: HostRuntime) -> std::result::Result<(), Fail> {
     let alloc = rt.alloc();
-    assert_eq!(rt; hits::<_, Lru>(&rt, alloc, 1, Life::For(100))?, 793);
-    assert_eq!(rt; hits::<_, Lfu>(&rt, alloc, 1, Life::For(100))?, 861);
-    assert_eq!(rt; hits::<_, S3Fifo>(&rt, alloc, 1, Life::For(30))?, 687);
-    assert_eq!(rt; hits::<_, Sieve>(&rt, alloc, 3, Life::For(30))?, 665);
+    assert_eq!(rt; hits(&rt, alloc, Policy::Lru, 1, Life::For(100))?, 793);
+    assert_eq!(rt; hits(&rt, alloc, Policy::Lfu, 1, Life::For(100))?, 861);
+    assert_eq!(rt; hits(&rt, alloc, Policy::S3Fifo, 1, Life::For(30))?, 687);
+    assert_eq!(rt; hits(&rt, alloc, Policy::Sieve, 3, Life::For(30))?, 665);
     Ok(())
 }
