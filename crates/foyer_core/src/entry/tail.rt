@@ -1,4 +1,4 @@
-//! The last words of an entry.
+//! The end of an entry: its source, its slot, and perhaps a share.
 
 ghost use Rattle.std.specs.Prelude.{◌≡◌, None, option_map};
 ghost use Rattle.std.specs.Arc.{arc_value};
