@@ -1,0 +1,131 @@
+#!/usr/bin/env python3
+"""erase.py [--check] [--to FOLDER] [NAME..]: writes the proved crates as modules of the Rust crate `luffapricot`, contracts and
+ghost code left out, into rust/luffapricot/src/proved; with --check it writes nothing, and compares.
+
+erase.py --crate NAME --to FOLDER: writes a crate of tests, or a program, as a Rust crate that uses `luffapricot`.
+
+A form that no rule knows ends it with file and line. rustfmt lays the result out."""
+import argparse
+import os
+import re
+import subprocess
+import sys
+
+sys.dont_write_bytecode = True
+from lex import Refused, lex, text_of
+from rules import OF_KIT, RULES, Eraser, path
+
+ROOT = os.path.dirname(os.path.dirname(os.path.dirname(os.path.realpath(__file__))))
+SHIPPED = ["foyer_policy", "foyer_core", "foyer_raw", "foyer_memory"]
+PROVED = f"{ROOT}/rust/luffapricot/src/proved"
+NOTE = "// Written by rust/erase/erase.py from crates/{}: change that.\n"
+ALLOWED = "#[allow(unused_imports)]\n"
+
+
+def sources_of(crate):
+    """The files of a crate, by their paths in it."""
+    top = f"{ROOT}/crates/{crate}/src"
+    found = [os.path.join(folder, it) for folder, _, files in os.walk(top) for it in files if it.endswith(".rt")]
+    return {os.path.relpath(it, top): open(it, encoding="utf-8").read() for it in sorted(found)}
+
+
+def copied_in(texts):
+    return {it for text in texts for it in re.findall(r"impl(?:<[^{]*?>)? Copy for (\w+)", text)}
+
+
+def start_of(text):
+    """The index after a file's first lines: comments on the module and attributes of the whole."""
+    at = 0
+    for line in text.splitlines(keepends=True):
+        if line.strip() and not line.startswith(("//!", "#![")):
+            return at
+        at += len(line)
+    return at
+
+
+class Target:
+    """Where a crate's modules stand in Rust, and by which paths they name each other."""
+
+    def __init__(self, crate, own):
+        self.name, self.root = crate, "luffapricot::" if own else "crate::"
+        self.own = "crate::" if own else f"crate::proved::{crate}::"
+        self.kit = "rattle_std::" if own else "crate::rattle_std::"
+        self.crates = {it: f"{self.root}proved::{it}::" for it in SHIPPED}
+
+    def erased(self, path_, text, copied):
+        """One file of Rattle in Rust."""
+        tokens = Eraser(lex(text, path_), self.own, self.kit, self.crates, copied).run()
+        out = text_of(tokens)
+        start = start_of(out)
+        prelude = f"{NOTE.format(f'{self.name}/src/{path_}')}{ALLOWED}use {self.kit}prelude::*;\n"
+        return out[:start] + ("\n" if start else "") + prelude + out[start:]
+
+    def files(self):
+        """All files of the crate in Rust, by their paths."""
+        texts, found = sources_of(self.name), {}
+        copied = copied_in(texts.values())
+        for it, text in texts.items():
+            try:
+                found[it[:-3] + ".rs"] = self.erased(it, text, copied)
+            except Refused as refused:
+                raise Refused(f"crates/{self.name}/src/{it}:{refused}") from None
+        return found
+
+
+def laid_out(text):
+    words = ["rustfmt", "--edition", "2024", "--config", "reorder_imports=false,reorder_modules=false,max_width=110"]
+    ran = subprocess.run(words, input=text, capture_output=True, text=True, check=False)
+    if ran.returncode:
+        raise Refused(f"rustfmt: {ran.stderr}")
+    return ran.stdout
+
+
+def modules():
+    """The files of `luffapricot`'s proved modules, laid out, by their paths below PROVED."""
+    found = {}
+    for crate in SHIPPED:
+        for it, text in Target(crate, False).files().items():
+            found[f"{crate}/{'mod.rs' if it == 'lib.rs' else it}"] = laid_out(text)
+    return found
+
+
+def write(folder, files):
+    for it, text in files.items():
+        os.makedirs(os.path.dirname(f"{folder}/{it}"), exist_ok=True)
+        with open(f"{folder}/{it}", "w", encoding="utf-8") as file:
+            file.write(text)
+
+
+def read_all(folder):
+    found = [os.path.join(where, it) for where, _, files in os.walk(folder) for it in files]
+    return {os.path.relpath(it, folder): open(it, encoding="utf-8").read() for it in found}
+
+
+def main():
+    parser = argparse.ArgumentParser(description=__doc__, formatter_class=argparse.RawDescriptionHelpFormatter)
+    parser.add_argument("--check", action="store_true")
+    parser.add_argument("--crate")
+    parser.add_argument("--to", default=PROVED)
+    given = parser.parse_args()
+    if given.crate:
+        write(given.to, Target(given.crate, True).files())
+        return 0
+    files = modules()
+    if not given.check:
+        write(given.to, files)
+        return 0
+    kept = {it: text for it, text in read_all(given.to).items() if it != "mod.rs"}
+    wrong = [it for it in {*files, *kept} if files.get(it) != kept.get(it)]
+    for it in sorted(wrong):
+        print(f"rust/luffapricot/src/proved/{it} isn't what rust/erase/erase.py writes")
+    return 1 if wrong else 0
+
+
+for it in OF_KIT | {"crate", *SHIPPED}:
+    RULES[it] = path
+
+if __name__ == "__main__":
+    try:
+        sys.exit(main())
+    except Refused as refused_:
+        sys.exit(str(refused_))

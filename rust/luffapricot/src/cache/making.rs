@@ -1,0 +1,85 @@
+//! Blocking calls that make what is missing.
+
+use super::Cache;
+use crate::entry::CacheEntry;
+use crate::error::{BoxError, Error, Result, fault_of};
+use crate::guard::{Held, resumed};
+use crate::key::{Equivalent, Name};
+use crate::properties::Properties;
+use crate::rules::{Key, Value};
+use crate::types::panicked;
+use std::hash::{BuildHasher, Hash};
+use std::panic::{AssertUnwindSafe, catch_unwind, resume_unwind};
+
+impl<K, V, S, P> Cache<K, V, S, P>
+where
+    K: Key,
+    V: Value,
+    S: BuildHasher + Send + Sync + 'static,
+    P: Properties,
+{
+    /// Returns an entry of the key's record; if there is none, makes the value and inserts it.
+    ///
+    /// If several callers miss the same key, one calls its closure, with no lock held, and the others block until it is
+    /// done. If that panics, one of the others calls its own. The closure may use the cache under other keys; **one that
+    /// waits for its own key never returns**.
+    ///
+    /// # Panics
+    /// If the closure panics, memory runs out or a count is full; or if a fetch of another caller for the key fails.
+    pub fn get_or_insert_with<Q>(&self, key: &Q, make: impl FnOnce() -> V) -> CacheEntry<K, V, S, P>
+    where
+        Q: Hash + Equivalent<K> + ?Sized + ToOwned<Owned = K>,
+    {
+        let mut make = Some(make);
+        loop {
+            let made = || -> std::result::Result<V, BoxError> {
+                let make = make.take().ok_or_else(|| Box::new(Error::no_memory()))?;
+                Ok(make())
+            };
+            match self.get_or_try_insert_with(key, made) {
+                Ok(entry) => return entry,
+                // Another caller's maker failed, and this one wasn't called.
+                Err(error) if make.is_some() && error.number() >= 11 => {}
+                Err(error) => panic!("{error:?}"),
+            }
+        }
+    }
+
+    /// Returns an entry of the key's record; if there is none, makes the value and inserts it, unless that fails.
+    ///
+    /// As `get_or_insert_with`, but all callers that wait get the closure's error.
+    ///
+    /// # Errors
+    /// F11 with the closure's error, or with the message of its panic for those who waited; F7 to F10 as `try_insert`; what
+    /// the key's open fetch ends with, if there is one.
+    ///
+    /// # Panics
+    /// If the closure panics.
+    pub fn get_or_try_insert_with<Q, E>(
+        &self,
+        key: &Q,
+        make: impl FnOnce() -> std::result::Result<V, E>,
+    ) -> Result<CacheEntry<K, V, S, P>>
+    where
+        Q: Hash + Equivalent<K> + ?Sized + ToOwned<Owned = K>,
+        E: Into<BoxError>,
+    {
+        let mut panic = None;
+        let make = || match catch_unwind(AssertUnwindSafe(make)) {
+            Ok(made) => made.map(Held::new).map_err(|error| fault_of(error.into())),
+            Err(thrown) => {
+                panic = Some(thrown);
+                Err(panicked())
+            }
+        };
+        if let Some(entry) = self.get(key) {
+            return Ok(entry);
+        }
+        let name = Name::new(key.to_owned());
+        let entry = resumed(|| self.inner.get_or_insert_with(self.clock.now(), &name, make));
+        if let Some(panic) = panic {
+            resume_unwind(panic);
+        }
+        Ok(CacheEntry::new(entry?))
+    }
+}

@@ -1,0 +1,32 @@
+//! An in-memory cache whose eviction is proved: FIFO, LRU, w-TinyLFU, S3-FIFO and Sieve, under the names of `foyer-memory`.
+#![warn(missing_docs)]
+
+mod builder;
+mod cache;
+mod clock;
+mod config;
+mod entry;
+mod error;
+mod fetch;
+mod guard;
+mod key;
+mod pipe;
+mod properties;
+mod proved;
+mod rattle_std;
+mod rules;
+mod types;
+
+pub use builder::CacheBuilder;
+pub use cache::Cache;
+pub use config::{EvictionConfig, FifoConfig, LfuConfig, LruConfig, S3FifoConfig, SieveConfig, UnknownPolicy};
+pub use entry::CacheEntry;
+pub use error::{BoxError, Error, ErrorKind, Result};
+pub use fetch::{GetOrFetch, Spawner};
+pub use key::Equivalent;
+pub use pipe::{ArcPipe, BoxFuture, NoopPipe, Piece, Pipe};
+pub use properties::{CacheProperties, Properties};
+pub use proved::foyer_core::Stats;
+pub use proved::foyer_policy::{Age, DefaultHasher, Event, Hint, Location, ModHasher, Source};
+pub use rules::{EventListener, Filter, Key, Value, Weighter};
+pub use types::{FetchTarget, OptionalFetch, OptionalFetchBuilder, RequiredFetch, RequiredFetchBuilder};

@@ -1,0 +1,188 @@
+//! What comes with a record beside its key and value.
+
+use crate::guard::Held;
+use crate::proved::foyer_policy;
+use crate::proved::foyer_policy::{Age, Hint, Location};
+use std::fmt::Debug;
+use std::time::Duration;
+
+/// What comes with a record. [`CacheProperties`] is one; bring your own to keep more.
+pub trait Properties: Send + Sync + 'static + Clone + Default + Debug {
+    /// Sets whether the record is a phantom: only its entries have it, no look-up finds it.
+    fn with_phantom(self, phantom: bool) -> Self;
+
+    /// Returns whether the record is a phantom, if that was set.
+    fn phantom(&self) -> Option<bool>;
+
+    /// Sets a hint to the policy.
+    fn with_hint(self, hint: Hint) -> Self;
+
+    /// Returns the hint, if one was set.
+    fn hint(&self) -> Option<Hint>;
+
+    /// Sets where the record is to be kept.
+    fn with_location(self, location: Location) -> Self;
+
+    /// Returns where the record is to be kept, if that was set.
+    fn location(&self) -> Option<Location>;
+
+    /// Sets how old the disk's copy is.
+    fn with_age(self, age: Age) -> Self;
+
+    /// Returns how old the disk's copy is, if that was set.
+    fn age(&self) -> Option<Age>;
+
+    /// Returns how long look-ups find the record, from its insert on. By default as long as the cache's builder says.
+    fn time_to_live(&self) -> Option<Duration> {
+        None
+    }
+}
+
+/// The default properties: a phantom mark, a hint and a time to live.
+#[derive(Clone, Debug, Default, PartialEq, Eq)]
+pub struct CacheProperties {
+    time_to_live: Option<Duration>,
+    phantom: bool,
+    hint: Hint,
+}
+
+impl CacheProperties {
+    /// Sets a hint to the policy.
+    pub fn with_hint(mut self, hint: Hint) -> Self {
+        self.hint = hint;
+        self
+    }
+
+    /// Returns the hint.
+    pub fn hint(&self) -> Hint {
+        self.hint
+    }
+
+    /// Sets how long look-ups find the record, from its insert on.
+    pub fn with_time_to_live(mut self, time_to_live: Duration) -> Self {
+        self.time_to_live = Some(time_to_live);
+        self
+    }
+}
+
+impl Properties for CacheProperties {
+    fn with_phantom(mut self, phantom: bool) -> Self {
+        self.phantom = phantom;
+        self
+    }
+
+    fn phantom(&self) -> Option<bool> {
+        Some(self.phantom)
+    }
+
+    fn with_hint(self, hint: Hint) -> Self {
+        CacheProperties::with_hint(self, hint)
+    }
+
+    fn hint(&self) -> Option<Hint> {
+        Some(self.hint)
+    }
+
+    fn with_location(self, _location: Location) -> Self {
+        self
+    }
+
+    fn location(&self) -> Option<Location> {
+        None
+    }
+
+    fn with_age(self, _age: Age) -> Self {
+        self
+    }
+
+    fn age(&self) -> Option<Age> {
+        None
+    }
+
+    fn time_to_live(&self) -> Option<Duration> {
+        self.time_to_live
+    }
+}
+
+/// Properties as the proved code asks for them. What a user's type says was asked once, before any lock.
+pub(crate) struct Props<P> {
+    pub(crate) user: Held<P>,
+    // In nanoseconds of the cache's clock.
+    expires: Option<u64>,
+    phantom: Option<bool>,
+    hint: Option<Hint>,
+    location: Option<Location>,
+    age: Option<Age>,
+}
+
+impl<P: Properties> Props<P> {
+    pub(crate) fn new(user: P, expires: Option<u64>) -> Self {
+        Props {
+            expires,
+            phantom: user.phantom(),
+            hint: user.hint(),
+            location: user.location(),
+            age: user.age(),
+            user: Held::new(user),
+        }
+    }
+}
+
+impl<P: Properties> Default for Props<P> {
+    fn default() -> Self {
+        Props::new(P::default(), None)
+    }
+}
+
+impl<P: Properties> foyer_policy::Properties for Props<P> {
+    fn with_phantom(mut self, phantom: bool) -> Self {
+        self.phantom = Some(phantom);
+        self
+    }
+
+    #[inline(always)]
+    fn phantom(&self) -> Option<bool> {
+        self.phantom
+    }
+
+    fn with_hint(mut self, hint: Hint) -> Self {
+        self.hint = Some(hint);
+        self
+    }
+
+    #[inline(always)]
+    fn hint(&self) -> Option<Hint> {
+        self.hint
+    }
+
+    fn with_location(mut self, location: Location) -> Self {
+        self.location = Some(location);
+        self
+    }
+
+    #[inline(always)]
+    fn location(&self) -> Option<Location> {
+        self.location
+    }
+
+    fn with_age(mut self, age: Age) -> Self {
+        self.age = Some(age);
+        self
+    }
+
+    #[inline(always)]
+    fn age(&self) -> Option<Age> {
+        self.age
+    }
+
+    #[inline(always)]
+    fn with_expiry(mut self, expires: Option<u64>) -> Self {
+        self.expires = expires;
+        self
+    }
+
+    #[inline(always)]
+    fn expiry(&self) -> Option<u64> {
+        self.expires
+    }
+}

@@ -1,0 +1,79 @@
+//! Inserts.
+
+// Written by rust/erase/erase.py from crates/foyer_memory/src/cache/insertion.rt: change that.
+#[allow(unused_imports)]
+use crate::rattle_std::prelude::*;
+use super::Cache;
+use crate::proved::foyer_memory::entry::CacheEntry;
+use crate::proved::foyer_core::{Filter, Finder, Piece, Weighter};
+use crate::proved::foyer_policy::{EventListener, HashBuilder, Key, Properties, Result, Value};
+use crate::proved::foyer_raw::{FetchTypes, Pipe};
+use crate::rattle_std::sync::Wait;
+
+impl<H, K, V, S, P, W, A, L, Q, T, I> Cache<H, K, V, S, P, W, A, L, Q, T, I>
+where
+    H: Wait,
+    K: Key,
+    V: Value,
+    S: HashBuilder,
+    P: Properties,
+    W: Weighter<K, V>,
+    A: Filter<K, V>,
+    L: EventListener<Key = K, Value = V>,
+    I: Finder<K>,
+    Q: Pipe<Key = K, Value = V, Properties = P>,
+    T: FetchTypes<K, V, P>,
+{
+    /// Inserts a value with default properties and returns an entry of its record.
+    ///
+    /// # Errors
+    /// Those of `insert_with_properties`.
+    #[inline]
+    pub fn insert(&self, now: u64, key: K, value: V) -> Result<CacheEntry<H, K, V, S, P, W, A, L, Q, T, I>> {
+        Ok(CacheEntry {
+            entry: self.cache.insert(now, key, value)?,
+            kind: self.kind,
+        })
+    }
+
+    /// Inserts a record and returns an entry of it.
+    ///
+    /// The weighter is asked, and then the filter, before the shard is locked. Evicts records that are expired at `now`,
+    /// then the policy's victims, until the record fits. Callers that wait for a fetch of the key get this record.
+    ///
+    /// # Errors
+    /// F10 if no id is left, F9 if the handle count would pass its limit, F8 if the record's weight and the pinned weight
+    /// of other keys would overflow; nothing has changed. F7 if memory runs out; the evictions made so far stand and are
+    /// reported.
+    #[inline]
+    pub fn insert_with_properties(
+        &self,
+        now: u64,
+        key: K,
+        value: V,
+        properties: P,
+    ) -> Result<CacheEntry<H, K, V, S, P, W, A, L, Q, T, I>> {
+        Ok(CacheEntry {
+            entry: self.cache.insert_with_properties(now, key, value, properties)?,
+            kind: self.kind,
+        })
+    }
+
+    /// Inserts the record of a piece and returns an entry of it, with the source `Memory`.
+    ///
+    /// A piece of this cache stands for its own record. Any other piece makes a new record, which the weighter weighs.
+    ///
+    /// # Errors
+    /// Those of `insert_with_properties`.
+    #[inline]
+    pub fn insert_piece(
+        &self,
+        now: u64,
+        piece: Piece<K, V, P>,
+    ) -> Result<CacheEntry<H, K, V, S, P, W, A, L, Q, T, I>> {
+        Ok(CacheEntry {
+            entry: self.cache.insert_piece(now, piece)?,
+            kind: self.kind,
+        })
+    }
+}

@@ -1,0 +1,156 @@
+//! Look-ups that make or fetch what is missing, and block until it is there.
+
+// Written by rust/erase/erase.py from crates/foyer_raw/src/cache/blocking.rt: change that.
+#[allow(unused_imports)]
+use crate::rattle_std::prelude::*;
+use super::RawCache;
+use super::fetching::Asking;
+use crate::proved::foyer_raw::entry::RawCacheEntry;
+use crate::proved::foyer_raw::fetch::{AllTasks, Direct, FetchTypes, Given, ListSpawner, RawWait, RequiredFetch};
+use crate::proved::foyer_raw::pipe::Pipe;
+use crate::proved::foyer_raw::runtime::Runtime;
+use crate::proved::foyer_raw::shares::Fetch;
+use crate::proved::foyer_core::{Filter, Finder, Lookup, Weighter};
+use crate::proved::foyer_policy::{
+    Error, EventListener, Eviction, Fault, HashBuilder, Key, Properties, Reason, Result, Source, Value,
+};
+use crate::rattle_std::futures::Future;
+use crate::rattle_std::futures::executor::block_on;
+use crate::rattle_std::io::{self, ErrorKind};
+
+impl<H, E, K, V, S, P, W, A, L, Q, T, I> RawCache<H, E, K, V, S, P, W, A, L, Q, T, I>
+where
+    H: Runtime,
+    E: Eviction,
+    K: Key,
+    V: Value,
+    S: HashBuilder,
+    P: Properties,
+    W: Weighter<K, V>,
+    A: Filter<K, V>,
+    L: EventListener<Key = K, Value = V>,
+    I: Finder<K>,
+    Q: Pipe<Key = K, Value = V, Properties = P>,
+    T: FetchTypes<K, V, P>,
+{
+    /// Returns an entry of the key's record; if a `get` at this time finds none, makes the value and inserts it.
+    ///
+    /// If several callers miss the same key, the first one calls its closure, with no lock held, and the others block until
+    /// it is done. The closure may use the cache under other keys; if it asks for its own key by a call that waits, it never
+    /// returns. If a fetch by `get_or_fetch` is open for the key, the call blocks until that fetch's task has ended.
+    ///
+    /// # Errors
+    /// F9 and F7 as `get`; on a miss F10 and F7, what the insert fails with (F7 to F10), F11 with the fault, for all that
+    /// wait, if the closure fails, and F14 if the runtime can't block this thread. If another caller's fetch is open, what
+    /// that ends with (F12, F13 and F15 too).
+    #[inline]
+    pub fn get_or_insert_with<F>(
+        &self,
+        now: u64,
+        key: &K,
+        make: F,
+    ) -> Result<RawCacheEntry<H, E, K, V, S, P, W, A, L, Q, T::Required, I>>
+    where
+        F: FnOnce() -> crate::rattle_std::result::Result<V, Fault>,
+    {
+        let hash = self.hash(key);
+        if let Some(entry) = self.get_first(now, hash, key)? {
+            return Ok(entry);
+        }
+        let Asking {
+            shares,
+            task,
+            hash: _,
+            own,
+            notifier,
+            waiter,
+        } = self.asking(hash, key)?;
+        let shards = &self.shares.shared.shards;
+        match shards.get_or_enqueue(now, hash, key, None, notifier)? {
+            Lookup::Hit(core) => return Ok(shares.entry(core)),
+            Lookup::Wait { token: _ } => {}
+            Lookup::Lead {
+                fetch: id,
+                token: _,
+                required: _,
+            } => {
+                let fetch = Fetch {
+                    id,
+                    now,
+                    hash,
+                    time_to_live: self.time_to_live,
+                };
+                match make() {
+                    Ok(value) => task.complete(fetch, own, value, P::default(), Source::Outer),
+                    Err(fault) => task.fail(fetch, &own, fault),
+                }
+            }
+        }
+        waited(&shards.rt, RawWait::new(shares, waiter))
+    }
+}
+
+impl<H, E, K, V, S, P, W, A, L, Q, R, I> RawCache<H, E, K, V, S, P, W, A, L, Q, Direct<R>, I>
+where
+    H: Runtime,
+    E: Eviction,
+    K: Key,
+    V: Value,
+    S: HashBuilder,
+    P: Properties,
+    W: Weighter<K, V>,
+    A: Filter<K, V>,
+    L: EventListener<Key = K, Value = V>,
+    I: Finder<K>,
+    Q: Pipe<Key = K, Value = V, Properties = P>,
+    R: RequiredFetch<K, V, P>,
+{
+    /// Returns an entry of the key's record; if a `get` at this time finds none, fetches it as `get_or_fetch` does, drives the
+    /// fetch's task on this thread, and blocks until it is done. If another caller leads the fetch, the call blocks until that
+    /// caller's task has ended, and this future is dropped.
+    ///
+    /// # Errors
+    /// F9 and F7 as `get`; on a miss F10 and F7, what the insert fails with (F7 to F10, F12), F11 with the fault if the fetch
+    /// fails, and F14 if the runtime can't block this thread. If another caller's fetch is open, what that ends with (F13 and
+    /// F15 too).
+    #[inline]
+    pub fn get_or_fetch_blocking(
+        &self,
+        now: u64,
+        key: &K,
+        fetch: R,
+    ) -> Result<RawCacheEntry<H, E, K, V, S, P, W, A, L, Q, Given<R>, I>> {
+        let shards = &self.shares.shared.shards;
+        let mut tasks = ListSpawner::new(shards.alloc);
+        let look = self.get_or_fetch(now, key, || fetch, &mut tasks)?;
+        match block_on(&shards.rt, AllTasks::new(tasks)) {
+            Ok(()) => waited(&shards.rt, look),
+            Err(error) => Err(unblocked(&error)),
+        }
+    }
+}
+
+// What a wait ends with. This thread is parked meanwhile.
+#[inline]
+fn waited<H, X, F>(rt: &H, wait: F) -> Result<X>
+where
+    H: Runtime,
+    F: Future<Output = Result<Option<X>>>,
+{
+    match block_on(rt, wait) {
+        Ok(Ok(Some(entry))) => Ok(entry),
+        Ok(Ok(None)) => Err(Error::new(Reason::NoValue)),
+        Ok(Err(error)) => Err(error),
+        Err(error) => Err(unblocked(&error)),
+    }
+}
+
+// Why this thread could not block: memory ran out (F7), or the runtime gave its executor no name, and no answer can come
+// (F14).
+#[inline]
+fn unblocked(error: &io::Error) -> Error {
+    if error.kind() == ErrorKind::OutOfMemory {
+        return Error::new(Reason::NoMemory);
+    }
+    Error::new(Reason::ChannelClosed)
+}

@@ -1,0 +1,185 @@
+//! Inserts.
+
+// Written by rust/erase/erase.py from crates/foyer_raw/src/cache/insertion.rt: change that.
+#[allow(unused_imports)]
+use crate::rattle_std::prelude::*;
+use super::RawCache;
+use crate::proved::foyer_raw::entry::RawCacheEntry;
+use crate::proved::foyer_raw::expiry::expiring;
+use crate::proved::foyer_raw::fetch::FetchTypes;
+use crate::proved::foyer_raw::leaves::Leaves;
+use crate::proved::foyer_raw::pipe::Pipe;
+use crate::proved::foyer_raw::shards::RawInserted;
+use crate::proved::foyer_raw::shares::Shares;
+use crate::proved::foyer_core::{CoreEntry, Filter, Finder, InsertedOnto, Leave, Piece, Share, Weighter};
+use crate::proved::foyer_policy::{
+    Error, EventListener, Eviction, HashBuilder, Key, Properties, Reason, Result, Source, Value,
+};
+use crate::rattle_std::sync::Wait;
+
+impl<H, E, K, V, S, P, W, A, L, Q, T, I> RawCache<H, E, K, V, S, P, W, A, L, Q, T, I>
+where
+    H: Wait,
+    E: Eviction,
+    K: Key,
+    V: Value,
+    S: HashBuilder,
+    P: Properties,
+    W: Weighter<K, V>,
+    A: Filter<K, V>,
+    L: EventListener<Key = K, Value = V>,
+    I: Finder<K>,
+    Q: Pipe<Key = K, Value = V, Properties = P>,
+    T: FetchTypes<K, V, P>,
+{
+    /// Inserts a value with default properties and returns an entry of its record.
+    ///
+    /// # Errors
+    /// Those of `insert_with_properties`.
+    #[inline]
+    pub fn insert(
+        &self,
+        now: u64,
+        key: K,
+        value: V,
+    ) -> Result<RawCacheEntry<H, E, K, V, S, P, W, A, L, Q, T::Required, I>> {
+        self.insert_with_properties(now, key, value, P::default())
+    }
+
+    /// Inserts a record and returns an entry of it.
+    ///
+    /// The weighter is asked, and then the filter, before the shard is locked. Evicts records that are expired at `now`,
+    /// then the policy's victims, until the record fits. Callers that wait for a fetch of the key get this record.
+    ///
+    /// # Errors
+    /// F10 if no id is left, F9 if the handle count would pass its limit, F8 if the record's weight and the pinned weight
+    /// of other keys would overflow; nothing has changed. F7 if memory runs out; the evictions made so far stand and are
+    /// reported.
+    #[inline]
+    pub fn insert_with_properties(
+        &self,
+        now: u64,
+        key: K,
+        value: V,
+        properties: P,
+    ) -> Result<RawCacheEntry<H, E, K, V, S, P, W, A, L, Q, T::Required, I>> {
+        let hash = self.hash(&key);
+        let properties = expiring(properties, now, self.time_to_live);
+        let kept = self.shares.shared.data(hash, key, value, properties);
+        let shards = &self.shares.shared.shards;
+        match Share::new(shards.alloc, kept) {
+            Ok(kept) => self.insert_share(now, hash, kept),
+            Err(kept) => Err(shards.refuse_insert(hash, &kept.key, &kept.properties, kept.weight)),
+        }
+    }
+
+    // Inserts a record with this share of its data, whose key has this hash. All that it needs is made before the lock.
+    #[inline(always)]
+    fn insert_share(
+        &self,
+        now: u64,
+        hash: u64,
+        kept: Share<K, V, P>,
+    ) -> Result<RawCacheEntry<H, E, K, V, S, P, W, A, L, Q, T::Required, I>> {
+        let shards = &self.shares.shared.shards;
+        let Ok(shares) = self.shares_of(hash) else {
+            let (key, properties) = (kept.key(), kept.properties());
+            return Err(shards.refuse_insert(hash, key, properties, kept.weight()));
+        };
+        let Some(mut entry) = CoreEntry::of_share(&kept, Source::Outer, false) else {
+            let (key, properties) = (kept.key(), kept.properties());
+            return Err(shards.refuse_insert(hash, key, properties, kept.weight()));
+        };
+        let (mut leaves, mut later) = (Leaves::new(shards.alloc), None);
+        let placed = shards.place(now, kept, &mut entry, &mut leaves, &mut later);
+        if let Some(kept) = later {
+            entry.discard();
+            return self.insert_answering(now, shares, kept);
+        }
+        self.shares.tell_leaves(leaves);
+        match placed {
+            Ok(()) => Ok(shares.entry(entry)),
+            Err(error) => {
+                entry.discard();
+                Err(error)
+            }
+        }
+    }
+
+    // Inserts a record with this share of its data while fetches are open.
+    #[cold]
+    #[inline(never)]
+    fn insert_answering(
+        &self,
+        now: u64,
+        shares: Shares<H, E, K, V, S, P, W, A, L, Q, T::Required, I>,
+        kept: Share<K, V, P>,
+    ) -> Result<RawCacheEntry<H, E, K, V, S, P, W, A, L, Q, T::Required, I>> {
+        let shards = &self.shares.shared.shards;
+        let mut leaves = Vec::new(shards.alloc);
+        match shards.emplace(now, kept, &mut leaves) {
+            Ok(made) => Ok(self.came_in(shares, made, leaves)),
+            Err(error) => Err(self.refused(error, leaves)),
+        }
+    }
+
+    /// Inserts the record of a piece and returns an entry of it, with the source `Memory`.
+    ///
+    /// A piece of this cache stands for its own record. Any other piece makes a new record, which the weighter weighs.
+    ///
+    /// # Errors
+    /// Those of `insert_with_properties`.
+    #[inline]
+    pub fn insert_piece(
+        &self,
+        now: u64,
+        piece: Piece<K, V, P>,
+    ) -> Result<RawCacheEntry<H, E, K, V, S, P, W, A, L, Q, T::Required, I>> {
+        let hash = self.hash(piece.key());
+        let shares = self.shares_of(hash);
+        let shared = &self.shares.shared;
+        let weight = shared.weight_of(hash, &piece);
+        let shares = match shares {
+            Ok(shares) => shares,
+            Err(refused) => {
+                let reason = shared.shards.refuse_piece(hash, weight, &piece);
+                return Err(first_of(reason, refused));
+            }
+        };
+        let mut leaves = Vec::new(shared.shards.alloc);
+        match shared.shards.emplace_piece(now, piece, hash, weight, &mut leaves) {
+            Ok(made) => Ok(self.came_in(shares, made, leaves)),
+            Err(error) => Err(self.refused(error, leaves)),
+        }
+    }
+
+    // Returns the entry of an insert, after the waiting callers got their results and what left was reported.
+    #[inline]
+    fn came_in(
+        &self,
+        shares: Shares<H, E, K, V, S, P, W, A, L, Q, T::Required, I>,
+        made: RawInserted<K, V, P>,
+        leaves: Vec<Leave<K, V, P>>,
+    ) -> RawCacheEntry<H, E, K, V, S, P, W, A, L, Q, T::Required, I> {
+        let InsertedOnto { entry, answers } = made;
+        self.shares.answer(answers);
+        self.shares.tell_all(leaves);
+        shares.entry(entry)
+    }
+
+    // Returns the error of an insert, after what left all the same was reported.
+    #[inline]
+    fn refused(&self, error: Error, leaves: Vec<Leave<K, V, P>>) -> Error {
+        self.shares.tell_all(leaves);
+        error
+    }
+}
+
+// Returns the reason that comes first, if there is one, or else the F7.
+#[inline]
+fn first_of(reason: Option<Reason>, refused: Error) -> Error {
+    match reason {
+        Some(reason) => Error::new(reason),
+        None => refused,
+    }
+}

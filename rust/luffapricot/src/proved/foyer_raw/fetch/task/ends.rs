@@ -1,0 +1,99 @@
+//! Ways in which a task ends its fetch.
+
+// Written by rust/erase/erase.py from crates/foyer_raw/src/fetch/task/ends.rt: change that.
+#[allow(unused_imports)]
+use crate::rattle_std::prelude::*;
+use super::RawFetch;
+use crate::proved::foyer_raw::fetch::FetchTypes;
+use crate::proved::foyer_raw::pipe::Pipe;
+use crate::proved::foyer_raw::shards::Later;
+use crate::proved::foyer_raw::shares::Fetch;
+use crate::proved::foyer_raw::ticket::{Waiters, refuse, tell_none};
+use crate::proved::foyer_core::{FetchOrTake, FetchTarget, Filter, Finder, Piece, Weighter};
+use crate::proved::foyer_policy::{EventListener, Eviction, Fault, HashBuilder, Key, Properties, Source, Value};
+use crate::rattle_std::sync::Wait;
+
+impl<H, E, K, V, S, P, W, A, L, Q, T, I> RawFetch<H, E, K, V, S, P, W, A, L, Q, T, I>
+where
+    H: Wait,
+    E: Eviction,
+    K: Key,
+    V: Value,
+    S: HashBuilder,
+    P: Properties,
+    W: Weighter<K, V>,
+    A: Filter<K, V>,
+    L: EventListener<Key = K, Value = V>,
+    I: Finder<K>,
+    Q: Pipe<Key = K, Value = V, Properties = P>,
+    T: FetchTypes<K, V, P>,
+{
+    // Returns whether the fetch is open.
+    #[inline]
+    pub(super) fn is_open(&self) -> bool {
+        match &self.key {
+            Some(key) => self.is_open_for(key),
+            None => false,
+        }
+    }
+
+    // Whether the fetch is open under this key, its own.
+    #[inline]
+    fn is_open_for(&self, key: &K) -> bool {
+        let Fetch { id, hash, .. } = self.fetch;
+        self.shares.shared.shards.is_open(hash, key, id)
+    }
+
+    // Ends the fetch with what was fetched, inserted at the first caller's `now`, and gives all that wait their result. If
+    // the fetch isn't open nothing happens, and neither the weighter nor the filter is asked.
+    #[inline]
+    pub(super) fn complete(&self, key: Option<K>, target: FetchTarget<K, V, P>, source: Source) {
+        let Some(key) = key else {
+            return;
+        };
+        if !self.is_open_for(&key) {
+            return;
+        }
+        match target {
+            FetchTarget::Entry { value, properties } => {
+                self.shares.complete(self.fetch, key, value, properties, source)
+            }
+            FetchTarget::Piece(piece) => self.complete_piece(&key, piece),
+        }
+    }
+
+    // Ends the fetch with a piece.
+    #[inline]
+    fn complete_piece(&self, key: &K, piece: Piece<K, V, P>) {
+        let Fetch { id, now, hash, .. } = self.fetch;
+        let ended = self.shares.shared.complete_piece(now, hash, key, id, piece);
+        self.shares.ended(ended);
+    }
+
+    // Ends the fetch with a fault.
+    #[inline]
+    pub(super) fn fail(&self, fault: Fault) {
+        if let Some(key) = &self.key {
+            self.shares.fail(self.fetch, key, fault);
+        }
+    }
+
+    // Returns a builder that a waiting caller brought, or else the waiting callers; none if the fetch isn't open.
+    #[inline]
+    pub(super) fn later(&self) -> Option<Later<K, V, P, T::Required>> {
+        let Fetch { id, hash, .. } = self.fetch;
+        match &self.key {
+            Some(key) => self.shares.shared.shards.fetch_or_take(hash, key, id),
+            None => None,
+        }
+    }
+
+    // Gives all that wait the fault, or none.
+    #[inline]
+    pub(super) fn tell_nothing(&self, waiters: Waiters<K, V, P>, fault: Option<Fault>) {
+        match fault {
+            Some(fault) => refuse(waiters, self.shares.refusal(fault)),
+            None => tell_none(waiters),
+        }
+    }
+}
