@@ -3,8 +3,9 @@
 use crate::cache::Cache;
 use crate::clock::{Clock, Source, nanoseconds};
 use crate::config::EvictionConfig;
-use crate::error::Result;
+use crate::error::{Error, Result};
 use crate::fetch::Spawner;
+use crate::guard::Resumed;
 use crate::key::Hashing;
 use crate::properties::Properties;
 use crate::proved::foyer_memory;
@@ -152,9 +153,11 @@ impl<K: Key, V: Value, S: BuildHasher + Send + Sync + 'static> CacheBuilder<K, V
             builder = builder.with_time_to_live(nanoseconds(time_to_live));
         }
         let source = self.clock.unwrap_or_else(|| Source::System(Instant::now()));
+        let clock = Clock::new(source, self.time_to_live.is_some());
+        let clock = crate::rattle_std::sync::Arc::new(Global, clock).map_err(|_| Error::no_memory())?;
         Ok(Cache {
-            inner: builder.build(HostRuntime, Global, &NopLogger)?,
-            clock: Arc::new(Clock::new(source, self.time_to_live.is_some())),
+            inner: Resumed::new(builder.build(HostRuntime, Global, &NopLogger)?),
+            clock,
             spawner: self.spawner,
         })
     }
