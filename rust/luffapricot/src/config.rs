@@ -119,7 +119,7 @@ impl FromStr for EvictionConfig {
             "lru" => Ok(LruConfig::default().into()),
             "lfu" => Ok(LfuConfig::default().into()),
             "s3fifo" => Ok(S3FifoConfig::default().into()),
-            "sieve" => Ok(SieveConfig::default().into()),
+            "sieve" => Ok(SieveConfig.into()),
             _ => Err(UnknownPolicy),
         }
     }

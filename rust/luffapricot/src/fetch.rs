@@ -93,6 +93,7 @@ impl<K: Key, V: Value, S, P: Properties> GetOrFetch<K, V, S, P> {
     }
 
     /// Polls, with no entry if an optional fetch found nothing and there was no required one.
+    #[allow(clippy::type_complexity)]
     pub fn poll_inner(&mut self, cx: &mut Context<'_>) -> Poll<Result<Option<CacheEntry<K, V, S, P>>>> {
         let look = match &mut self.look {
             Ok(look) => look,
