@@ -83,14 +83,11 @@ def attribute(self, token):
         at = significant(self.tokens, at + 1)
     end = closing(self.tokens, at) + 1
     words = [it.text for it in self.tokens[at:end] if it.kind == "id"]
-    if words[0] in GHOST_ATTRIBUTES:
-        self.at = end
+    if words[0] in GHOST_ATTRIBUTES or words[0] == "error":
+        self.at = end + (self.tokens[end].kind == "ws")
         return True
     if words[0] not in ATTRIBUTES:
         raise Refused(f"{token.line}: the attribute {words[0]}")
-    if words[0] == "error":
-        self.at = end
-        return True
     if words[0] == "derive":
         return derive(self, token, words, end)
     if words == ["test"]:
@@ -110,7 +107,7 @@ def derive(self, token, words, end):
         display(self, end)
     if kept:
         self.write(f"#[derive({', '.join(kept)})]")
-    self.at = end
+    self.at = end + (not kept and self.tokens[end].kind == "ws")
     return True
 
 

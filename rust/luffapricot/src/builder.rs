@@ -8,16 +8,17 @@ use crate::fetch::Spawner;
 use crate::guard::Resumed;
 use crate::key::Hashing;
 use crate::properties::Properties;
-use crate::proved::foyer_memory;
+use crate::proved::foyer_core::{Limits, RawCacheConfig};
 use crate::proved::foyer_policy::{DefaultHasher, Event};
+use crate::proved::foyer_raw::RawCache;
 use crate::rattle_std::alloc::Global;
-use crate::rattle_std::log::NopLogger;
 use crate::rattle_std::rt::HostRuntime;
 use crate::rules::{Admit, Closure, EventListener, Filter, Key, Tell, Value, Weigh, Weighter};
 use std::fmt;
 use std::hash::BuildHasher;
 use std::marker::PhantomData;
 use std::sync::Arc;
+use std::sync::atomic::{AtomicU64, Ordering};
 use std::time::{Duration, Instant};
 
 /// Builds a [`Cache`].
@@ -142,26 +143,31 @@ impl<K: Key, V: Value, S: BuildHasher + Send + Sync + 'static> CacheBuilder<K, V
     /// # Errors
     /// F1 if there are no shards, F2 to F6 for the configuration's first fault, F7 if memory runs out.
     pub fn try_build<P: Properties>(self) -> Result<Cache<K, V, S, P>> {
-        let mut builder = foyer_memory::CacheBuilder::new(self.capacity)
-            .with_shards(self.shards)
-            .with_eviction_config(self.eviction_config.exact())
-            .with_hash_builder(Hashing(self.hash_builder))
-            .with_weighter(self.weighter)
-            .with_filter(self.filter)
-            .with_event_listener(self.listener);
-        if let Some(time_to_live) = self.time_to_live {
-            builder = builder.with_time_to_live(nanoseconds(time_to_live));
-        }
+        let config = RawCacheConfig {
+            capacity: self.capacity,
+            shards: self.shards,
+            eviction_config: self.eviction_config.exact(),
+            hash_builder: Hashing(self.hash_builder),
+            weighter: self.weighter,
+            filter: self.filter,
+            // Pieces know their cache by it.
+            number: BUILT.fetch_add(1, Ordering::Relaxed),
+            limits: Limits::default(),
+        };
         let source = self.clock.unwrap_or_else(|| Source::System(Instant::now()));
         let clock = Clock::new(source, self.time_to_live.is_some());
         let clock = crate::rattle_std::sync::Arc::new(Global, clock).map_err(|_| Error::no_memory())?;
+        let inner = RawCache::new(HostRuntime, Global, config, self.listener)?;
         Ok(Cache {
-            inner: Resumed::new(builder.build(HostRuntime, Global, &NopLogger)?),
+            inner: Resumed::new(inner.with_time_to_live(self.time_to_live.map(nanoseconds))),
             clock,
             spawner: self.spawner,
         })
     }
 }
+
+// How many caches this process has built.
+static BUILT: AtomicU64 = AtomicU64::new(0);
 
 impl<K: Key, V: Value, S> fmt::Debug for CacheBuilder<K, V, S> {
     fn fmt(&self, f: &mut fmt::Formatter<'_>) -> fmt::Result {

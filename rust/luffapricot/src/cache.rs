@@ -11,8 +11,8 @@ use crate::key::{Equivalent, Hashing, Name, ask};
 use crate::pipe::{ArcPipe, Piece, PipeOf};
 use crate::properties::{CacheProperties, Properties, Props};
 use crate::proved::foyer_core::{Stats, TagFinder};
-use crate::proved::foyer_memory;
-use crate::proved::foyer_policy::{self, DefaultHasher};
+use crate::proved::foyer_policy::{self, AnyEviction, DefaultHasher};
+use crate::proved::foyer_raw::RawCache;
 use crate::rattle_std::rt::HostRuntime;
 use crate::rattle_std::sync::Arc as Shared;
 use crate::rules::{Admit, Key, Tell, Value, Weigh};
@@ -24,8 +24,9 @@ use std::sync::Arc;
 mod bulk;
 mod making;
 
-type Inner<K, V, S, P> = foyer_memory::Cache<
+type Inner<K, V, S, P> = RawCache<
     HostRuntime,
+    AnyEviction,
     Name<K>,
     Held<V>,
     Hashing<S>,
@@ -203,7 +204,7 @@ impl<K: Key, V: Value, S, P: Properties> Cache<K, V, S, P> {
     /// # Errors
     /// F17 for another policy, F2 to F6 for the configuration's first fault; nothing has changed.
     pub fn reconfigure(&self, config: impl Into<EvictionConfig>) -> Result<()> {
-        Ok(self.inner.reconfigure(config.into().exact())?)
+        Ok(self.inner.reconfigure(&config.into().exact())?)
     }
 
     /// Returns the cache with this pipe, which its later entries, clones and tasks have too.
@@ -230,6 +231,6 @@ impl<K: Key, V: Value, S, P: Properties> Clone for Cache<K, V, S, P> {
 
 impl<K: Key, V: Value, S, P: Properties> fmt::Debug for Cache<K, V, S, P> {
     fn fmt(&self, f: &mut fmt::Formatter<'_>) -> fmt::Result {
-        self.inner.fmt(f)
+        f.debug_struct("Cache").field("capacity", &self.capacity()).field("shards", &self.shards()).finish_non_exhaustive()
     }
 }

@@ -47,7 +47,7 @@ pub struct S3FifoConfig {
 /// Sieve (Zhang and others, NSDI 2024).
 #[derive(Clone, Debug, Default, PartialEq)]
 #[cfg_attr(feature = "serde", derive(serde::Serialize, serde::Deserialize))]
-pub struct SieveConfig {}
+pub struct SieveConfig;
 
 impl Default for LruConfig {
     fn default() -> Self {
@@ -119,7 +119,7 @@ impl FromStr for EvictionConfig {
             "lru" => Ok(LruConfig::default().into()),
             "lfu" => Ok(LfuConfig::default().into()),
             "s3fifo" => Ok(S3FifoConfig::default().into()),
-            "sieve" => Ok(SieveConfig::default().into()),
+            "sieve" => Ok(SieveConfig.into()),
             _ => Err(UnknownPolicy),
         }
     }

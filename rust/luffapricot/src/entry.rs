@@ -5,17 +5,18 @@ use crate::key::{Hashing, Name};
 use crate::pipe::{Piece, PipeOf};
 use crate::properties::{CacheProperties, Properties, Props};
 use crate::proved::foyer_core::TagFinder;
-use crate::proved::foyer_memory;
-use crate::proved::foyer_policy::{DefaultHasher, Source};
+use crate::proved::foyer_policy::{AnyEviction, DefaultHasher, Source};
+use crate::proved::foyer_raw::RawCacheEntry;
 use crate::rattle_std::rt::HostRuntime;
 use crate::rules::{Admit, Key, Tell, Value, Weigh};
-use crate::types::Fetches;
+use crate::types::Required;
 use std::fmt;
 use std::mem::ManuallyDrop;
 use std::ops::Deref;
 
-pub(crate) type InnerEntry<K, V, S, P> = foyer_memory::CacheEntry<
+pub(crate) type InnerEntry<K, V, S, P> = RawCacheEntry<
     HostRuntime,
+    AnyEviction,
     Name<K>,
     Held<V>,
     Hashing<S>,
@@ -24,7 +25,7 @@ pub(crate) type InnerEntry<K, V, S, P> = foyer_memory::CacheEntry<
     Admit<K, V>,
     Tell<K, V>,
     PipeOf<K, V, P>,
-    Fetches<K, V, P>,
+    Required<K, V, P>,
     TagFinder<Name<K>>,
 >;
 

@@ -8,13 +8,12 @@ use crate::key::{Equivalent, Hashing, Name};
 use crate::pipe::{BoxFuture, PipeOf};
 use crate::properties::{CacheProperties, Properties, Props};
 use crate::proved::foyer_core::TagFinder;
-use crate::proved::foyer_memory;
-use crate::proved::foyer_policy::{self, DefaultHasher};
+use crate::proved::foyer_policy::{self, AnyEviction, DefaultHasher};
 use crate::proved::foyer_raw;
 use crate::rattle_std::futures::future::Future as _;
 use crate::rattle_std::rt::HostRuntime;
 use crate::rules::{Admit, Key, Tell, Value, Weigh};
-use crate::types::{Build, FetchTarget, Fetches, OptionalFetchBuilder, RequiredFetchBuilder};
+use crate::types::{Build, FetchTarget, Fetches, OptionalFetchBuilder, Required, RequiredFetchBuilder};
 use std::fmt;
 use std::hash::{BuildHasher, Hash};
 use std::pin::Pin;
@@ -32,8 +31,9 @@ impl<F: Fn(BoxFuture<()>) + Send + Sync + 'static> Spawner for F {
     }
 }
 
-type Look<K, V, S, P> = foyer_memory::GetOrFetch<
+type Look<K, V, S, P> = foyer_raw::RawGetOrFetch<
     HostRuntime,
+    AnyEviction,
     Name<K>,
     Held<V>,
     Hashing<S>,
@@ -42,12 +42,13 @@ type Look<K, V, S, P> = foyer_memory::GetOrFetch<
     Admit<K, V>,
     Tell<K, V>,
     PipeOf<K, V, P>,
-    Fetches<K, V, P>,
+    Required<K, V, P>,
     TagFinder<Name<K>>,
 >;
 
-type Task<K, V, S, P> = foyer_memory::FetchTask<
+type Task<K, V, S, P> = foyer_raw::RawFetch<
     HostRuntime,
+    AnyEviction,
     Name<K>,
     Held<V>,
     Hashing<S>,
@@ -92,6 +93,7 @@ impl<K: Key, V: Value, S, P: Properties> GetOrFetch<K, V, S, P> {
     }
 
     /// Polls, with no entry if an optional fetch found nothing and there was no required one.
+    #[allow(clippy::type_complexity)]
     pub fn poll_inner(&mut self, cx: &mut Context<'_>) -> Poll<Result<Option<CacheEntry<K, V, S, P>>>> {
         let look = match &mut *self.look {
             Ok(look) => look,
@@ -100,7 +102,7 @@ impl<K: Key, V: Value, S, P: Properties> GetOrFetch<K, V, S, P> {
         if self.task.as_mut().is_some_and(|task| task.as_mut().poll(cx).is_ready()) {
             self.task = None;
         }
-        let ready = resumed(|| look.poll_inner(cx));
+        let ready = resumed(|| look.poll(cx));
         if ready.is_ready() {
             self.task = None;
         }
@@ -165,8 +167,8 @@ where
     ///
     /// If several callers ask for the same missing key, the first one's fetch runs and the others wait for its result.
     /// It runs as a task of the cache's spawner, or with the feature `tokio` of the current runtime, or else while the
-    /// first caller's future is polled. An `insert` of the key meanwhile ends all waits with that record. `fetch` isn't
-    /// called on a hit.
+    /// first caller's future is polled. An `insert` of the key meanwhile ends all waits with that record. `fetch` is
+    /// called on each miss, at once; only the first caller's future is polled.
     ///
     /// # Errors
     /// The future gives F11 with the fetch's error or the message of its panic, for all who wait; F12 for a piece of
@@ -174,16 +176,14 @@ where
     pub fn get_or_fetch<Q, F, FU, IT, ER>(&self, key: &Q, fetch: F) -> GetOrFetch<K, V, S, P>
     where
         Q: Hash + Equivalent<K> + ?Sized + ToOwned<Owned = K>,
-        F: FnOnce() -> FU + Send + 'static,
+        F: FnOnce() -> FU,
         FU: std::future::Future<Output = std::result::Result<IT, ER>> + Send + 'static,
         IT: Into<FetchTarget<K, V, P>>,
         ER: Into<BoxError>,
     {
         let build = || -> RequiredFetchBuilder<K, V, P> {
-            Box::new(|| {
-                let fetch = fetch();
-                Box::pin(async { fetch.await.map(Into::into).map_err(Into::into) })
-            })
+            let future = fetch();
+            Box::new(|| Box::pin(async { future.await.map(Into::into).map_err(Into::into) }))
         };
         self.get_or_fetch_inner(key, || None, || Some(build()))
     }

@@ -1,4 +1,4 @@
-//! An in-memory cache whose eviction is proved: FIFO, LRU, w-TinyLFU, S3-FIFO and Sieve, under the names of `foyer-memory`.
+#![doc = include_str!("../README.md")]
 #![warn(missing_docs)]
 
 mod builder;

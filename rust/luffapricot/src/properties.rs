@@ -1,9 +1,11 @@
 //! What comes with a record beside its key and value.
 
+use crate::clock::nanoseconds;
 use crate::guard::{Held, caught};
 use crate::proved::foyer_policy;
 use crate::proved::foyer_policy::{Age, Hint, Location};
 use std::fmt::Debug;
+use std::num::NonZeroU64;
 use std::time::Duration;
 
 /// What comes with a record. [`CacheProperties`] is one; bring your own to keep more.
@@ -41,7 +43,8 @@ pub trait Properties: Send + Sync + 'static + Clone + Default + Debug {
 /// The default properties: a phantom mark, a hint and a time to live.
 #[derive(Clone, Debug, Default, PartialEq, Eq)]
 pub struct CacheProperties {
-    time_to_live: Option<Duration>,
+    // In nanoseconds and one more, so that none takes no room of its own.
+    time_to_live: Option<NonZeroU64>,
     phantom: bool,
     hint: Hint,
 }
@@ -58,9 +61,9 @@ impl CacheProperties {
         self.hint
     }
 
-    /// Sets how long look-ups find the record, from its insert on.
+    /// Sets how long look-ups find the record, from its insert on; 584 years and more are as good as for ever.
     pub fn with_time_to_live(mut self, time_to_live: Duration) -> Self {
-        self.time_to_live = Some(time_to_live);
+        self.time_to_live = NonZeroU64::new(nanoseconds(time_to_live).saturating_add(1));
         self
     }
 }
@@ -100,7 +103,7 @@ impl Properties for CacheProperties {
     }
 
     fn time_to_live(&self) -> Option<Duration> {
-        self.time_to_live
+        self.time_to_live.map(|more| Duration::from_nanos(more.get() - 1))
     }
 }
 
@@ -108,18 +111,21 @@ impl Properties for CacheProperties {
 pub(crate) struct Props<P> {
     // None if the default ones panicked.
     user: Held<Option<P>>,
-    // In nanoseconds of the cache's clock.
-    expires: Option<u64>,
+    // In nanoseconds of the cache's clock, or `NEVER`.
+    expires: u64,
     phantom: Option<bool>,
     hint: Option<Hint>,
     location: Option<Location>,
     age: Option<Age>,
 }
 
+// An expiry that no clock reaches.
+const NEVER: u64 = u64::MAX;
+
 impl<P: Properties> Props<P> {
     pub(crate) fn new(user: P, expires: Option<u64>) -> Self {
         Props {
-            expires,
+            expires: expires.unwrap_or(NEVER),
             phantom: user.phantom(),
             hint: user.hint(),
             location: user.location(),
@@ -140,7 +146,7 @@ impl<P: Properties> Default for Props<P> {
     fn default() -> Self {
         caught(|| Props::new(P::default(), None)).unwrap_or_else(|| Props {
             user: Held::new(None),
-            expires: None,
+            expires: NEVER,
             phantom: Some(true),
             hint: None,
             location: None,
@@ -192,12 +198,12 @@ impl<P: Properties> foyer_policy::Properties for Props<P> {
 
     #[inline(always)]
     fn with_expiry(mut self, expires: Option<u64>) -> Self {
-        self.expires = expires;
+        self.expires = expires.unwrap_or(NEVER);
         self
     }
 
     #[inline(always)]
     fn expiry(&self) -> Option<u64> {
-        self.expires
+        (self.expires != NEVER).then_some(self.expires)
     }
 }

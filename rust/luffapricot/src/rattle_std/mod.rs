@@ -1,7 +1,9 @@
 //! What the proved modules call of Rattle's std, over Rust's: an allocator is passed, a call that allocates returns a
 //! `Result`, and a clone can fail.
 //!
-//! This is not proved. Each function does what its namesake in Rust's std does, but for that.
+//! This is not proved. Each function does what its namesake in Rust's std does, but for that. Some are called by the tests
+//! and programs of the proved crates alone.
+#![allow(dead_code)]
 
 pub mod alloc;
 pub mod arc;
@@ -222,8 +224,8 @@ pub fn unreached() -> ! {
     panic!("the proof says that this is never reached: are the key's Eq, Hash and Clone lawful?")
 }
 
-#[allow(unused_imports)]
 /// What a file of Rattle sees without a `use`, where Rust's prelude differs.
+#[allow(unused_imports)]
 pub mod prelude {
     pub use super::alloc::Global;
     pub use super::clone::TryClone;

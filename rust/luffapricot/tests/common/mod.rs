@@ -469,7 +469,9 @@ pub struct Loaded(Page);
 impl From<Loaded> for FetchTarget<Name, Page, Extra> {
     fn from(loaded: Loaded) -> Self {
         loaded.0.world.at(Site::Into);
-        FetchTarget::Entry { value: loaded.0, properties: Extra::default() }
+        let mut properties = Extra::default();
+        properties.time_to_live = Some(Duration::from_secs(1000));
+        FetchTarget::Entry { value: loaded.0, properties }
     }
 }
 

@@ -35,7 +35,6 @@ pub use shards::{shard_capacity, shard_of};
 ///
 /// `N` is the type of waiters, `R` of fetch builders, and `I` of each shard's index. Contracts see a `Core`: the
 /// shards, the hash builder, the weighter and the filter.
-
 pub struct CacheCore<
     E: Eviction,
     K: Key,

@@ -9,7 +9,6 @@ use crate::proved::foyer_core::weighter::UnitWeighter;
 
 /// The configuration of a core. `C` is the policy's configuration, `S` the hash builder, `W` the weighter and `A` the
 /// filter.
-
 pub struct RawCacheConfig<C, S, W, A> {
     /// The weight that the records may have together.
     pub capacity: usize,

@@ -13,7 +13,6 @@ mod tail;
 use tail::Tail;
 
 /// A record that left. Its data stays readable.
-
 pub struct Left<K, V, P> {
     number: u64,
     id: u64,

@@ -12,7 +12,6 @@ use crate::rattle_std::alloc::Global;
 mod answering;
 
 /// A fetch that is open.
-
 struct Inflight<N, R> {
     id: u64,
     // the time at which it was opened
@@ -68,7 +67,6 @@ impl<N, R> Inflight<N, R> {
 }
 
 /// What a caller gets that asks for a missing key.
-
 pub enum Enqueue<R> {
     /// Nobody fetches the key: the caller leads a new fetch.
     Lead {
@@ -87,7 +85,6 @@ pub enum Enqueue<R> {
 }
 
 /// What a fetch that found nothing goes on with.
-
 pub enum FetchOrTake<R, N> {
     /// A waiter's builder, to fetch with.
     Fetch(R),
@@ -98,7 +95,6 @@ pub enum FetchOrTake<R, N> {
 /// The open fetches of a shard, at most one for each key.
 ///
 /// Keys are looked up together with their hash, and compared by `==`. `N` is the type of waiters, `R` of builders.
-
 pub struct InflightManager<K: Key, N, R> {
     index: HashTableIndexer<K>,
     inflights: Slots<Inflight<N, R>>,

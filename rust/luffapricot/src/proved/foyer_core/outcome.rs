@@ -10,7 +10,6 @@ use crate::rattle_std::alloc::Global;
 use crate::rattle_std::fmt::{self, Debug, Display};
 
 /// Why an insert, a resize or an eviction failed, and what had left by then.
-
 pub struct Refused<K, V, P> {
     /// The error.
     pub error: Error,
@@ -244,7 +243,6 @@ impl<K, V, P> Debug for Refused<K, V, P> {
 impl<K, V, P> crate::rattle_std::error::Error for Refused<K, V, P> {}
 
 /// What a fetch completes with.
-
 pub enum FetchTarget<K, V, P> {
     /// A value of the key, with its properties.
     Entry {

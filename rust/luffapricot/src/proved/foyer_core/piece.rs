@@ -12,7 +12,6 @@ use crate::rattle_std::fmt::{self, Debug};
 /// The data of a record outside of its core, with the core's number and the record's id.
 ///
 /// It isn't a handle: the record may leave.
-
 pub struct Piece<K, V, P> {
     number: u64,
     id: u64,

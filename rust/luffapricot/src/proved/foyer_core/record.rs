@@ -62,7 +62,6 @@ impl Flags {
 }
 
 /// A record as upstream has it, for callers that use its name. No cache uses it: a shard keeps its records in slots.
-
 pub struct Record<K, V, P> {
     kept: Share<K, V, P>,
     state: Option<Place>,

@@ -14,7 +14,6 @@ use crate::rattle_std::alloc::Global;
 use crate::rattle_std::mem;
 
 /// The records of a shard, by slot. The table of ids is asked only if a slot isn't known.
-
 pub struct Records<K, V, P> {
     slots: Slots<Slot<K, V, P>>,
     ids: Ids,

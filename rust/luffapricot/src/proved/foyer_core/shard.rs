@@ -25,7 +25,6 @@ mod resident_pieces;
 ///
 /// Contracts see its `State`, maps from hashed keys to ids and from ids to records, and its `Opens`, the open fetches
 /// by their keys.
-
 pub struct Shard<E: Eviction, K: Key, V: Value, P: Properties, N, R, I: Finder<K>> {
     store: Store<E, K, V, P, I>,
     inflights: InflightManager<K, N, R>,

@@ -10,7 +10,6 @@ use crate::rattle_std::alloc::Global;
 use crate::rattle_std::sync::Arc;
 
 /// What all shares of a record have in common.
-
 pub struct Body<K, V, P> {
     pub(crate) key: K,
     pub(crate) value: V,
@@ -19,7 +18,6 @@ pub struct Body<K, V, P> {
 
 /// A counted reference to a body. Hash and weight are beside it, since a record of another core may have the same
 /// body with others.
-
 pub struct Share<K, V, P> {
     body: Arc<Body<K, V, P>, Global>,
     hash: u64,

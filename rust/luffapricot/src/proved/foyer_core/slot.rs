@@ -16,7 +16,6 @@ use crate::rattle_std::sync::Arc;
 ///
 /// The fields stand in the order of their use. An allocator puts a large block 16 bytes behind the beginning of a cache
 /// line, so the first 48 bytes of a cell are one line of memory, and a drop needs no more.
-
 pub struct Slot<K, V, P> {
     id: u64,
     body: Arc<Body<K, V, P>, Global>,

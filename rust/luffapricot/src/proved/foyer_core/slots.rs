@@ -16,7 +16,6 @@ use crate::rattle_std::mem;
 
 /// Values in slots. Only `reserve` takes memory: a new value takes a reserved room, and gives it back when it is
 /// removed.
-
 pub struct Slots<T> {
     cells: Vec<Cell<T>>,
     // the cell that was freed last, or the end
@@ -26,7 +25,6 @@ pub struct Slots<T> {
 }
 
 /// Where a slot's value lies. A free cell leads to the one freed before it.
-
 enum Cell<T> {
     Free(Link),
     Taken(T),

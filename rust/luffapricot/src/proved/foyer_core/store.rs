@@ -30,7 +30,6 @@ mod resident_pieces;
 
 /// The policy, the index and the records of a shard. Contracts see its `State`: maps from hashed keys to ids and from
 /// ids to records.
-
 pub struct Store<E: Eviction, K: Key, V: Value, P: Properties, I: Finder<K>> {
     eviction: E,
     index: I,

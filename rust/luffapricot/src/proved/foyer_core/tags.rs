@@ -21,7 +21,6 @@ const SPARE: usize = 8;
 /// Slots under hashes, each below 2^32 - 1 and entered once.
 ///
 /// Of a hash only a fingerprint of 32 mixed bits is kept, so a slot that is found is one that may have this hash.
-
 pub struct Tags {
     buckets: Buckets,
     // there are 2^bits homes, whether these buckets are there or not

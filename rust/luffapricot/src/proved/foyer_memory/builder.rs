@@ -13,7 +13,6 @@ mod build;
 /// Builds a `Cache`.
 ///
 /// The setters of the hash builder, the weighter, the filter and the listener change the builder's type.
-
 pub struct CacheBuilder<K, V, S = DefaultHasher, W = UnitWeighter, A = AdmitAll, L = NoListener<K, V>> {
     config: RawCacheConfig<EvictionConfig, S, W, A>,
     listener: L,

@@ -17,7 +17,6 @@ use crate::rattle_std::ops::Deref;
 use crate::rattle_std::sync::Wait;
 
 /// An `X`, which is a cache, an entry or a look-up, with its policy in the type: the one that `C` configures.
-
 pub struct Of<C, X> {
     inner: X,
     policy: PhantomData<C>,

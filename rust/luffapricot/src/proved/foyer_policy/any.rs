@@ -16,7 +16,6 @@ use crate::proved::foyer_policy::types::Item;
 use crate::rattle_std::alloc::Global;
 
 /// One of the five policies. Its configuration says which, and that never changes.
-
 pub enum AnyEviction {
     /// First in, first out.
     Fifo(Fifo),

@@ -23,7 +23,6 @@ use tracking::Tracking;
 ///
 /// Dates are kept from the first `reserve` or `reserve_to` after an item that expires was inserted. Until then, while
 /// memory for them is refused, and beyond 2^32 - 1 nodes, a search walks along the list. A value keeps its item.
-
 pub(crate) struct DatedLists<T: HasItem, const N: usize> {
     lists: Lists<T, N>,
     dates: Tracking,

@@ -26,7 +26,6 @@ const FEW: usize = 32;
 /// The dates of a list are in slots, in the order in which they came, and a tree has the least date of each block of
 /// slots. A date that is removed leaves its slot empty. When all lists together have as many slots as they may, the
 /// empty ones are dropped.
-
 pub(crate) struct Dates {
     // The slots of each list.
     rows: Vec<Slots>,

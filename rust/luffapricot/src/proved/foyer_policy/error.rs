@@ -66,37 +66,21 @@ impl Fault {
 #[derive(Clone, Debug, PartialEq, Eq)]
 pub enum Reason {
     NoShards,
-
     ZeroDenominator,
-
     RatioRange(Field),
-
     RatioSum,
-
     NoRows,
-
     NoBuckets,
-
     NoMemory,
-
     Weight,
-
     Handles,
-
     Ids,
-
     Fetch(Arc<Fault, Global>),
-
     WrongKey,
-
     NoValue,
-
     ChannelClosed,
-
     TaskCancelled,
-
     Spent,
-
     WrongPolicy,
 }
 
@@ -129,7 +113,6 @@ impl ::std::error::Error for Reason {}
 
 /// Why a call failed. Contracts see its reason, which determines its kind.
 #[derive(Debug)]
-
 pub struct Error {
     kind: ErrorKind,
     reason: Reason,

@@ -36,7 +36,6 @@ impl Default for EvictionConfig {
 
 /// The text is not the name of a policy.
 #[derive(Clone, Copy, Debug, PartialEq, Eq)]
-
 pub struct UnknownPolicy;
 
 impl ::std::fmt::Display for UnknownPolicy {

@@ -23,7 +23,6 @@ pub struct FifoConfig {}
 pub struct FifoState {}
 
 /// First in, first out: the record that was inserted first leaves first, used or not.
-
 pub struct Fifo {
     queue: DatedLists<Kept, 1>,
     alloc: Global,

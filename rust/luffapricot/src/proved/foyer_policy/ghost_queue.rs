@@ -12,7 +12,6 @@ use crate::rattle_std::collections::{HashSet, VecDeque};
 /// The pairs weigh at most the capacity, or a single pair weighs more, perhaps with some of weight 0. After an update
 /// to capacity 0 all pairs stay, whatever they weigh. A pair that leaves takes its hash out of the set, even if a
 /// younger pair has the same hash.
-
 pub struct GhostQueue {
     pairs: VecDeque<(u64, usize)>,
     hashes: HashSet<u64>,

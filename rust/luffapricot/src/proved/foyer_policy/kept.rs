@@ -7,7 +7,6 @@ use crate::proved::foyer_policy::queued::Queued;
 use crate::proved::foyer_policy::types::Item;
 
 /// An item as a node keeps it if its policy has no state. A contract sees the item.
-
 pub(crate) struct Kept {
     parts: Queued<()>,
 }

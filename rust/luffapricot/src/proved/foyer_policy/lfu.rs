@@ -71,7 +71,6 @@ pub struct LfuState {}
 /// one counted less; on a tie, that of probation. A record that is used in probation becomes protected, and leaves
 /// only after all others. If the protected records weigh more than their part, the first of them go back to
 /// probation.
-
 pub struct Lfu {
     lists: DatedLists<Kept, 3>,
     sketch: Sketch,

@@ -50,7 +50,6 @@ pub struct LruState {
 /// weighs more than its part of the capacity, its first records lose their priority. A record that is acquired is
 /// pinned until it is released, and no pop takes it; then it goes back to the end of the list of its priority. A pop
 /// takes the record that was inserted or released longest ago, of low priority first.
-
 pub struct Lru {
     lists: DatedLists<Node, 3>,
     high_weight: usize,

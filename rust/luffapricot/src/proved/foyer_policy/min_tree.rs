@@ -9,7 +9,6 @@ use crate::rattle_std::alloc::Global;
 /// Numbers under indices from 0, as the leaves of a segment tree, in which each node has the least number of its four
 /// children. Changing a number, and finding the first one within a limit, take about as many steps as the tree is
 /// high.
-
 pub(crate) struct MinTree {
     // The root is node 1, and the children of node i are the four from 4 i - 2 on. Node 0 isn't used, so that the
     // four share a line of the cache if memory begins 16 bytes behind a line's start, as large blocks mostly do.

@@ -38,7 +38,6 @@ impl HasItem for Kept {
 
 /// An item with a small state, in no more bytes than the item alone. Whether the record expires, the state, and a
 /// number that no contract sees are beside the hint.
-
 pub(crate) struct Queued<S> {
     slot: u32,
     hint: Hint,

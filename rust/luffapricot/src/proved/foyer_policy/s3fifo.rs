@@ -50,7 +50,6 @@ impl Default for S3FifoConfig {
 /// it: records at or above the threshold move to the main queue, and the first one below it leaves. Otherwise the
 /// first record of the main queue with frequency 0 leaves; each one before it is lowered by 1 and goes to the back. A
 /// record whose hash the ghost queue remembers is inserted into the main queue.
-
 pub struct S3Fifo {
     queues: DatedLists<Node, 2>,
     ghost_queue: GhostQueue,

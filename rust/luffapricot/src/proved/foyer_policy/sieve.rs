@@ -26,7 +26,6 @@ pub struct SieveState {
 type Node = Queued<SieveState>;
 
 // What a pop removed, its place, where the hand goes, and how many bits were read.
-
 struct Victim {
     item: Item,
     at: Place,
@@ -40,7 +39,6 @@ struct Victim {
 /// A pop goes along the queue from the hand, or from the front if there is no hand, and on from the front after the
 /// last record. A visited record loses its bit; the first unvisited one leaves. The hand then points to the record
 /// behind it, or to none at the end.
-
 pub struct Sieve {
     queue: DatedLists<Node, 1>,
     hand: Option<Place>,

@@ -20,7 +20,6 @@ const LANES: usize = 32;
 ///
 /// The counters and the step come from some past of counted hashes and halvings. For each such past, a hash's
 /// estimate is at least the hash's own count in it, and at most the step.
-
 pub struct Sketch {
     // The counter of row r and bucket b is at r * buckets + b.
     counters: Vec<u16>,

@@ -32,7 +32,6 @@ mod walks;
 ///
 /// Each shard has a lock of its own. A call on a key makes a step of its shard, a call on all records one of each shard in
 /// turn; what left is reported after the lock is released.
-
 pub struct RawCache<
     H,
     E,

@@ -10,7 +10,6 @@ use crate::rattle_std::futures::task::{Context, Poll};
 /// The future of a flush, which ends once the pipe has taken the pieces.
 ///
 /// The evictions were made before it was returned. It gives the error of the flush, if there was one.
-
 pub struct Flush<F: Future<Output = ()>> {
     inner: Option<F>,
     refused: Option<Error>,

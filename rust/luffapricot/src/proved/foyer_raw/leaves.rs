@@ -8,7 +8,6 @@ use crate::rattle_std::alloc::Global;
 use crate::rattle_std::mem::replace;
 
 /// Leaves, in order. One or two stand in place, and take no memory.
-
 pub(crate) struct Leaves<K, V, P> {
     pub(crate) first: Option<Leave<K, V, P>>,
     pub(crate) second: Option<Leave<K, V, P>>,

@@ -31,7 +31,6 @@ pub(crate) const FIRST: u64 = 0;
 const LOOKS: u32 = 100;
 
 /// The shards of a cache. Each call locks one shard, makes one step, and unlocks, or does so with each in turn.
-
 pub(crate) struct Shards<H, E, K, V, P, R, I>
 where
     E: Eviction,

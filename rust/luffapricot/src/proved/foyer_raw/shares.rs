@@ -20,7 +20,6 @@ mod ending;
 pub(crate) use ending::Fetch;
 
 /// What a cache, an entry, a wait and a task each have: a share of what they have in common, and the pipe.
-
 pub(crate) struct Shares<H, E, K, V, S, P, W, A, L, Q, R, I>
 where
     E: Eviction,

@@ -14,7 +14,6 @@ use crate::rattle_std::ops::Deref;
 use crate::rattle_std::sync::Arc;
 
 /// One share of what a cache shares. Entries and tasks have shares of this one.
-
 pub(crate) struct Stripe<H, E, K, V, S, P, W, A, L, R, I>
 where
     E: Eviction,
@@ -47,7 +46,6 @@ where
 }
 
 /// The stripes of a cache, one for each shard.
-
 pub(crate) struct Stripes<H, E, K, V, S, P, W, A, L, R, I>
 where
     E: Eviction,

@@ -13,7 +13,6 @@ use crate::rattle_std::sync::Arc;
 ///
 /// Tag, source, spare and slot fill one word. An `Option` of a share, and a source behind it, would leave gaps, which the
 /// compiler copies byte by byte with every entry.
-
 pub enum Tail<K, V, P> {
     /// No share.
     Alone(Source, u16, u32),

@@ -9,7 +9,6 @@ use crate::proved::foyer_policy::{Key, Result};
 use crate::rattle_std::alloc::Global;
 
 /// A finder over any [`Indexer`], whose numbers are slots.
-
 pub struct Indexed<I> {
     index: I,
 }

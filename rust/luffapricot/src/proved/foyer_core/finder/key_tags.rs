@@ -10,7 +10,6 @@ use crate::rattle_std::alloc::Global;
 use crate::rattle_std::snapshot::Snapshot;
 
 /// Slots below 2^32 - 1 under hashed keys, in tags. No memory is taken for the keys.
-
 pub(crate) struct KeyTags<K: Key> {
     tags: Tags,
     trail: Trail<K>,

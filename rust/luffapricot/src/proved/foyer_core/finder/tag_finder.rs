@@ -15,7 +15,6 @@ const FAR: usize = u32::MAX as usize;
 
 /// A finder that takes eight bytes for each bucket and compares keys in the records. Slots from 2^32 - 1 on are in an
 /// index beside the tags.
-
 pub struct TagFinder<K: Key, I: Indexer<K> = HashTableIndexer<K>> {
     near: KeyTags<K>,
     far: I,

@@ -8,7 +8,6 @@ use crate::rattle_std::mem;
 use crate::rattle_std::snapshot::Snapshot;
 
 /// A list of marks, the last one first.
-
 enum Marks<K> {
     /// Nothing.
     Start,
@@ -22,7 +21,6 @@ enum Marks<K> {
 }
 
 /// Which slot each hashed key leads to, by the marks made. Takes no memory, and no code runs for it.
-
 pub(crate) struct Trail<K> {
     marks: Past<Marks<K>>,
 }

@@ -13,7 +13,6 @@ use crate::rattle_std::alloc::{AllocError, Global};
 const GOLDEN: u64 = 0x9e37_79b9_7f4a_7c15;
 
 /// A hashed key with its number.
-
 pub(crate) struct Pair<K> {
     pub(crate) hash: u64,
     pub(crate) key: K,

@@ -14,7 +14,6 @@ const FIRST_SHIFT: u32 = 62;
 
 /// A hash table with separate chaining, whose pairs lie in one vector (Knuth, The Art of Computer Programming, volume
 /// 3, section 6.4).
-
 pub struct HashTableIndexer<K: Key> {
     // the link to the first pair of each chain
     heads: Vec<Link>,

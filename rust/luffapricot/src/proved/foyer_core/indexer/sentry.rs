@@ -11,7 +11,6 @@ use crate::rattle_std::alloc::Global;
 ///
 /// Upstream's sets a flag of each record that enters or leaves the index. Here an index holds numbers, nothing sets
 /// that flag, and a shard's slots know which records are in the index.
-
 pub struct Sentry<I> {
     indexer: I,
 }

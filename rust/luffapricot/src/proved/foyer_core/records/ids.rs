@@ -46,7 +46,6 @@ impl Standing {
 
 /// The slot of each id. The last ids before `end` have a place each in the ring, by their low bits. An id that still
 /// has a slot when its place is needed for a later one moves to the map.
-
 pub(crate) struct Ids {
     // none, or a place for each number of so many bits
     near: Vec<Standing>,

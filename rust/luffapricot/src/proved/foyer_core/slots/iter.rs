@@ -6,7 +6,6 @@ use crate::rattle_std::prelude::*;
 use super::Cell;
 
 /// An iterator over the slots that have a value, with it.
-
 pub struct Iter<'a, T> {
     cells: &'a [Cell<T>],
     // the slot of the first of the cells

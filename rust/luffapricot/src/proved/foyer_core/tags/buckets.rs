@@ -56,7 +56,6 @@ pub(crate) fn home_of(fingerprint: u32, bits: u32) -> usize {
 }
 
 /// Buckets, each with a tag or empty. Only `reserve` adds some.
-
 pub(crate) struct Buckets {
     tags: Vec<Tag>,
 }

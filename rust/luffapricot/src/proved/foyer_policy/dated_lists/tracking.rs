@@ -8,7 +8,6 @@ use crate::proved::foyer_policy::lists::{Lists, Place};
 use crate::proved::foyer_policy::queued::HasItem;
 
 /// What is known of when items expire.
-
 pub(super) enum Tracking {
     /// No item expires.
     Plain,

@@ -22,7 +22,6 @@ const BLOCK: usize = 32;
 
 /// Places of a list with their dates, in slots, in the order in which they came. A date that is removed leaves its
 /// slot empty until the empty slots are dropped.
-
 pub(super) struct Slots {
     row: Row,
     // The largest number of slots.

@@ -18,7 +18,6 @@ use crate::rattle_std::sync::Wait;
 
 /// What a look-up needs that may have to wait: shares of the cache for an entry or a wait and for a task, the key's
 /// hash and a clone of it, and both ends of a channel.
-
 pub(super) struct Asking<C, K, V, P> {
     pub(super) shares: C,
     pub(super) task: C,

@@ -54,7 +54,6 @@ impl<K, V, P> FetchTypes<K, V, P> for NoFetch {
 }
 
 /// A builder that returns the future that it holds.
-
 pub struct Given<R: Future> {
     /// The future.
     pub fetch: Pollable<R>,

@@ -8,7 +8,6 @@ use crate::rattle_std::futures::Future;
 /// A future that may be polled.
 ///
 /// A builder keeps one: the fact that it may be polled has to last under a lock, where no clause can follow it.
-
 pub struct Pollable<F: Future> {
     future: F,
 }

@@ -22,7 +22,6 @@ pub trait Spawner<X: Future<Output = ()>> {
 }
 
 /// Tasks in a list, which the caller polls by `poll_all`.
-
 pub struct ListSpawner<X: Future<Output = ()>> {
     tasks: Vec<Spawned<X>>,
 }
@@ -68,7 +67,6 @@ impl<X: Future<Output = ()>> Spawner<X> for ListSpawner<X> {
 }
 
 /// A future of the end of all tasks of a list. Each poll polls all tasks that have not ended.
-
 pub struct AllTasks<X: Future<Output = ()>> {
     tasks: ListSpawner<X>,
 }

@@ -141,7 +141,6 @@ where
 }
 
 /// The result of a look-up that fetches what is missing: an entry at once, or a wait.
-
 pub enum RawGetOrFetch<H, E, K, V, S, P, W, A, L, Q, R, I = TagFinder<K>>
 where
     H: Wait,

@@ -10,7 +10,6 @@ use crate::proved::foyer_policy::{Eviction, Key, Properties, Result, Value};
 use crate::rattle_std::alloc::Global;
 
 /// A shard, and the counts of what its calls did, under one lock.
-
 pub(crate) struct Counting<E: Eviction, K: Key, V: Value, P: Properties, R, I: Finder<K>> {
     /// The shard.
     pub(crate) shard: RawShard<E, K, V, P, R, I>,

@@ -12,7 +12,6 @@ pub(super) const PLACES: u32 = u32::MAX;
 
 /// Slots in a row, each with a place and its date, or empty. The places are apart from the dates, so that finding and
 /// emptying a slot reads and writes four bytes.
-
 pub(super) struct Row {
     dates: Vec<u64>,
     places: Vec<u32>,
