@@ -48,7 +48,9 @@ impl Flow {
 fn work(cache: &Cache<String, Page>, flow: &Flow, serials: &AtomicU64, seed: u64) {
     let mut random = Random::new(seed);
     let mut held = Vec::new();
-    for step in 0..4000 {
+    // Under valgrind `STEPS` says how many calls each thread makes.
+    let steps = std::env::var("STEPS").map_or(4000, |steps| steps.parse().expect("a number"));
+    for step in 0..steps {
         let key = format!("page-{}", random.below(300));
         let page = || {
             let serial = serials.fetch_add(1, SeqCst);
