@@ -61,13 +61,16 @@ type Task<K, V, S, P> = foyer_raw::RawFetch<
     TagFinder<Name<K>>,
 >;
 
+// A look-up, or the error with which it failed, until that is given.
+type Begun<K, V, S, P> = std::result::Result<Look<K, V, S, P>, Option<Error>>;
+
 /// A hit, or a wait for a fetch: a future of the entry.
 ///
 /// If there is no spawner, the first caller's `GetOrFetch` runs the fetch itself. A drop of it then ends the fetch, and
 /// all others who wait get F15.
 #[must_use = "a future does nothing unless it is polled"]
 pub struct GetOrFetch<K: Key, V: Value, S: 'static = DefaultHasher, P: Properties = CacheProperties> {
-    look: Resumed<std::result::Result<Look<K, V, S, P>, Option<Error>>>,
+    look: Resumed<Begun<K, V, S, P>>,
     task: Option<BoxFuture<()>>,
 }
 

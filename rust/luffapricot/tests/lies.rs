@@ -89,7 +89,7 @@ fn call(cache: &Cheated, key: Liar, random: &mut Random, hands: &mut Hands) {
         15 if !hands.waits.is_empty() => {
             let at = random.below(hands.waits.len() as u64) as usize;
             drop(poll_once(&mut hands.waits[at]));
-            hands.waits.swap_remove(at);
+            drop(hands.waits.swap_remove(at));
         }
         16 => hands.entries.truncate(20),
         17 if random.below(20) == 0 => match random.below(6) {

@@ -100,7 +100,7 @@ fn call(world: &Arc<World>, cache: &Store, hands: &mut Hands, random: &mut Rando
             let at = pick(hands.waits.len(), random);
             if let Poll::Ready(result) = poll_once(&mut hands.waits[at]) {
                 hands.faults += usize::from(result.is_err_and(|error| error.number() == 11));
-                hands.waits.swap_remove(at);
+                drop(hands.waits.swap_remove(at));
             }
         }
         20 if !hands.waits.is_empty() => drop(hands.waits.swap_remove(pick(hands.waits.len(), random))),

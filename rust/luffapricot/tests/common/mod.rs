@@ -384,7 +384,8 @@ fn quiet() {
     ONCE.call_once(|| {
         let before = std::panic::take_hook();
         std::panic::set_hook(Box::new(move |info| {
-            let text = info.payload_as_str().unwrap_or("");
+            let text = info.payload().downcast_ref::<&str>().copied();
+            let text = text.or_else(|| info.payload().downcast_ref::<String>().map(String::as_str)).unwrap_or("");
             let is_wanted = ["boom", "the proof says", "a cache's lock is poisoned"].iter().any(|begin| text.starts_with(begin));
             if !is_wanted {
                 before(info);
@@ -470,8 +471,8 @@ pub struct Loaded(Page);
 impl From<Loaded> for FetchTarget<Name, Page, Extra> {
     fn from(loaded: Loaded) -> Self {
         loaded.0.world.at(Site::Into);
-        let mut properties = Extra::default();
-        properties.time_to_live = Some(Duration::from_secs(1000));
+        let time_to_live = Some(Duration::from_secs(1000));
+        let properties = Extra { time_to_live, ..Extra::default() };
         FetchTarget::Entry { value: loaded.0, properties }
     }
 }
