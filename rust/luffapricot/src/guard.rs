@@ -75,7 +75,13 @@ pub(crate) fn resumed<T>(call: impl FnOnce() -> T) -> T {
     let unwinding = Unwinding;
     let result = call();
     std::mem::forget(unwinding);
-    if IS_PENDING.get() { go_on(result) } else { result }
+    // `result` moves in the cold path alone.
+    if IS_PENDING.get() {
+        if let Some(panic) = going_on() {
+            go_on(result, panic);
+        }
+    }
+    result
 }
 
 /// Compares two names by a user's code. If that panics they count as equal until the panic goes on: a fetch that its own
@@ -133,22 +139,25 @@ fn drop_all_late() {
     }
 }
 
-// The result of a call that ends by a panic is dropped before, since its drop may call a user's code too.
+// The panic that goes on, if one does.
 #[cold]
 #[inline(never)]
-fn go_on<T>(result: T) -> T {
-    match take_panic() {
-        None => result,
-        Some(panic) if thread::panicking() => {
-            discard(Some(panic));
-            result
-        }
-        Some(panic) => {
-            caught(|| drop(result));
-            discard(take_panic());
-            resume_unwind(panic)
-        }
+fn going_on() -> Option<Thrown> {
+    let panic = take_panic()?;
+    if thread::panicking() {
+        discard(Some(panic));
+        return None;
     }
+    Some(panic)
+}
+
+// The result is dropped before the panic goes on, since its drop may call a user's code too.
+#[cold]
+#[inline(never)]
+fn go_on<T>(result: T, panic: Thrown) -> ! {
+    caught(|| drop(result));
+    discard(take_panic());
+    resume_unwind(panic)
 }
 
 /// A part of the proved code. A panic of a user's code that its drop calls goes on after it.
