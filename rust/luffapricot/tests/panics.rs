@@ -502,3 +502,24 @@ fn a_panic_while_a_thread_unwinds_does_not_end_the_process() {
         assert_eq!(world.live.load(SeqCst), 0, "{site:?}");
     }
 }
+
+#[test]
+fn a_hasher_that_panics_leaves_no_fetch_of_a_piece_open() {
+    for site in [Site::BuildHasher, Site::Finish, Site::Hash, Site::Eq, Site::Weigh] {
+        for n in 1..5 {
+            let world = World::new();
+            let [cache, other] = [1, 2].map(|shards| store(&world, FifoConfig {}.into(), 30, shards));
+            let piece = other.insert(world.key(1), world.value()).piece();
+            let mut lead = cache.get_or_fetch(&world.key(1), move || async move { Ok::<_, BoxError>(piece) });
+            let mut second = cache.get_or_fetch(&world.key(1), || async { Err::<Loaded, _>("none") });
+            world.arm(site, n);
+            let arrived = thrown(|| poll_once(&mut lead).map(drop)).is_err();
+            world.disarm();
+            assert_eq!(usize::from(arrived), world.thrown.load(SeqCst), "{site:?} {n}");
+            drop(lead);
+            assert!(poll_once(&mut second).is_ready(), "{site:?} {n}");
+            drop((second, cache, other));
+            assert_eq!(world.live.load(SeqCst), 0, "{site:?} {n}");
+        }
+    }
+}
