@@ -29,8 +29,7 @@ pub struct Share<K, V, P> {
 impl<K, V, P> Share<K, V, P> {
     /// Creates the first share of these data. If memory runs out, they come back as `Err`.
     #[inline(always)]
-    pub fn new(alloc: Global, kept: Data<K, V, P>) -> crate::rattle_std::result::Result<Self, Data<K, V, P>>
-where {
+    pub fn new(alloc: Global, kept: Data<K, V, P>) -> crate::rattle_std::result::Result<Self, Data<K, V, P>> {
         let Data {
             key,
             value,
