@@ -3,8 +3,9 @@
 use crate::cache::Cache;
 use crate::clock::{Clock, Source, nanoseconds};
 use crate::config::EvictionConfig;
-use crate::error::Result;
+use crate::error::{Error, Result};
 use crate::fetch::Spawner;
+use crate::guard::Resumed;
 use crate::key::Hashing;
 use crate::properties::Properties;
 use crate::proved::foyer_core::{Limits, RawCacheConfig};
@@ -154,10 +155,12 @@ impl<K: Key, V: Value, S: BuildHasher + Send + Sync + 'static> CacheBuilder<K, V
             limits: Limits::default(),
         };
         let source = self.clock.unwrap_or_else(|| Source::System(Instant::now()));
+        let clock = Clock::new(source, self.time_to_live.is_some());
+        let clock = crate::rattle_std::sync::Arc::new(Global, clock).map_err(|_| Error::no_memory())?;
         let inner = RawCache::new(HostRuntime, Global, config, self.listener)?;
         Ok(Cache {
-            inner: inner.with_time_to_live(self.time_to_live.map(nanoseconds)),
-            clock: Arc::new(Clock::new(source, self.time_to_live.is_some())),
+            inner: Resumed::new(inner.with_time_to_live(self.time_to_live.map(nanoseconds))),
+            clock,
             spawner: self.spawner,
         })
     }

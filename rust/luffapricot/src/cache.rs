@@ -6,7 +6,7 @@ use crate::config::EvictionConfig;
 use crate::entry::CacheEntry;
 use crate::error::{Error, Result};
 use crate::fetch::Spawner;
-use crate::guard::{Held, resumed};
+use crate::guard::{Held, Resumed, resumed};
 use crate::key::{Equivalent, Hashing, Name, ask};
 use crate::pipe::{ArcPipe, Piece, PipeOf};
 use crate::properties::{CacheProperties, Properties, Props};
@@ -14,6 +14,7 @@ use crate::proved::foyer_core::{Stats, TagFinder};
 use crate::proved::foyer_policy::{self, AnyEviction, DefaultHasher};
 use crate::proved::foyer_raw::RawCache;
 use crate::rattle_std::rt::HostRuntime;
+use crate::rattle_std::sync::Arc as Shared;
 use crate::rules::{Admit, Key, Tell, Value, Weigh};
 use crate::types::Fetches;
 use std::fmt;
@@ -42,8 +43,8 @@ type Inner<K, V, S, P> = RawCache<
 ///
 /// A clone is another owner of the same cache.
 pub struct Cache<K: Key, V: Value, S: 'static = DefaultHasher, P: Properties = CacheProperties> {
-    pub(crate) inner: Inner<K, V, S, P>,
-    pub(crate) clock: Arc<Clock>,
+    pub(crate) inner: Resumed<Inner<K, V, S, P>>,
+    pub(crate) clock: Shared<Clock>,
     pub(crate) spawner: Option<Arc<dyn Spawner>>,
 }
 
@@ -109,7 +110,7 @@ where
     ///
     /// A piece of this cache stands for its own record. Any other piece makes a new one.
     pub fn insert_piece(&self, piece: Piece<K, V, P>) -> CacheEntry<K, V, S, P> {
-        let entry = resumed(|| self.inner.insert_piece(self.clock.now(), piece.0));
+        let entry = resumed(|| self.inner.insert_piece(self.clock.now(), piece.into_inner()));
         CacheEntry::new(entry.unwrap_or_else(|error| refused(error)))
     }
 
@@ -212,7 +213,8 @@ impl<K: Key, V: Value, S, P: Properties> Cache<K, V, S, P> {
         let Ok(pipe) = crate::rattle_std::sync::Arc::new(crate::rattle_std::alloc::Global, PipeOf(pipe)) else {
             panic!("{:?}", Error::no_memory())
         };
-        Cache { inner: self.inner.with_pipe(pipe), clock: self.clock, spawner: self.spawner }
+        let inner = Resumed::new(self.inner.into_inner().with_pipe(pipe));
+        Cache { inner, clock: self.clock, spawner: self.spawner }
     }
 }
 
@@ -220,8 +222,8 @@ impl<K: Key, V: Value, S, P: Properties> Clone for Cache<K, V, S, P> {
     /// Returns another owner of the same cache.
     fn clone(&self) -> Self {
         Cache {
-            inner: self.inner.try_clone().unwrap_or_else(|error| refused(error)),
-            clock: Arc::clone(&self.clock),
+            inner: Resumed::new(self.inner.try_clone().unwrap_or_else(|error| refused(error))),
+            clock: self.clock.clone(),
             spawner: self.spawner.clone(),
         }
     }

@@ -1,6 +1,6 @@
 //! Entries: handles of records.
 
-use crate::guard::{Held, resumed};
+use crate::guard::{Held, dropped};
 use crate::key::{Hashing, Name};
 use crate::pipe::{Piece, PipeOf};
 use crate::properties::{CacheProperties, Properties, Props};
@@ -60,7 +60,7 @@ impl<K: Key, V: Value, S, P: Properties> CacheEntry<K, V, S, P> {
 
     /// Returns the properties.
     pub fn properties(&self) -> &P {
-        self.0.properties().user.get()
+        self.0.properties().user()
     }
 
     /// Returns the weight.
@@ -80,7 +80,7 @@ impl<K: Key, V: Value, S, P: Properties> CacheEntry<K, V, S, P> {
 
     /// Returns the record's data without a handle. Panics if 2^63 clones of it are kept.
     pub fn piece(&self) -> Piece<K, V, P> {
-        Piece(self.0.piece().expect("a reference count is full"))
+        Piece::new(self.0.piece().expect("a reference count is full"))
     }
 
     /// Returns where the entry came from.
@@ -93,7 +93,7 @@ impl<K: Key, V: Value, S, P: Properties> Drop for CacheEntry<K, V, S, P> {
     #[inline]
     fn drop(&mut self) {
         // SAFETY: nothing uses it after its drop.
-        resumed(|| unsafe { ManuallyDrop::drop(&mut self.0) });
+        dropped(|| unsafe { ManuallyDrop::drop(&mut self.0) });
     }
 }
 

@@ -3,7 +3,7 @@
 use crate::cache::Cache;
 use crate::entry::CacheEntry;
 use crate::error::{BoxError, Error, Result};
-use crate::guard::{Held, resumed};
+use crate::guard::{Held, Resumed, caught, resumed};
 use crate::key::{Equivalent, Hashing, Name};
 use crate::pipe::{BoxFuture, PipeOf};
 use crate::properties::{CacheProperties, Properties, Props};
@@ -13,11 +13,10 @@ use crate::proved::foyer_raw;
 use crate::rattle_std::futures::future::Future as _;
 use crate::rattle_std::rt::HostRuntime;
 use crate::rules::{Admit, Key, Tell, Value, Weigh};
-use crate::types::{FetchTarget, Fetches, Optional, OptionalFetchBuilder, Required, RequiredFetchBuilder};
+use crate::types::{Build, FetchTarget, Fetches, OptionalFetchBuilder, Required, RequiredFetchBuilder};
 use std::fmt;
 use std::hash::{BuildHasher, Hash};
 use std::pin::Pin;
-use std::sync::Arc;
 use std::task::{Context, Poll};
 
 /// Runs the tasks of fetches, such as an executor. A closure that takes a [`BoxFuture`] is one.
@@ -68,7 +67,7 @@ type Task<K, V, S, P> = foyer_raw::RawFetch<
 /// all others who wait get F15.
 #[must_use = "a future does nothing unless it is polled"]
 pub struct GetOrFetch<K: Key, V: Value, S: 'static = DefaultHasher, P: Properties = CacheProperties> {
-    look: std::result::Result<Look<K, V, S, P>, Option<Error>>,
+    look: Resumed<std::result::Result<Look<K, V, S, P>, Option<Error>>>,
     task: Option<BoxFuture<()>>,
 }
 
@@ -84,18 +83,19 @@ impl<K: Key, V: Value, S, P: Properties> GetOrFetch<K, V, S, P> {
     /// Returns the entry of a hit, or itself if it has to wait or failed.
     pub fn try_unwrap(self) -> std::result::Result<CacheEntry<K, V, S, P>, Self> {
         let GetOrFetch { look, task } = self;
-        match look.map(Look::try_unwrap) {
-            Ok(Ok(Ok(entry))) => Ok(CacheEntry::new(entry)),
-            Ok(Ok(Err(error))) => Err(GetOrFetch { look: Err(Some(error.into())), task }),
-            Ok(Err(look)) => Err(GetOrFetch { look: Ok(look), task }),
-            Err(error) => Err(GetOrFetch { look: Err(error), task }),
-        }
+        let look = match look.into_inner().map(Look::try_unwrap) {
+            Ok(Ok(Ok(entry))) => return Ok(CacheEntry::new(entry)),
+            Ok(Ok(Err(error))) => Err(Some(error.into())),
+            Ok(Err(look)) => Ok(look),
+            Err(error) => Err(error),
+        };
+        Err(GetOrFetch { look: Resumed::new(look), task })
     }
 
     /// Polls, with no entry if an optional fetch found nothing and there was no required one.
     #[allow(clippy::type_complexity)]
     pub fn poll_inner(&mut self, cx: &mut Context<'_>) -> Poll<Result<Option<CacheEntry<K, V, S, P>>>> {
-        let look = match &mut self.look {
+        let look = match &mut *self.look {
             Ok(look) => look,
             Err(error) => return Poll::Ready(Err(error.take().expect("polled after it was ready"))),
         };
@@ -120,7 +120,7 @@ impl<K: Key, V: Value, S, P: Properties> Future for GetOrFetch<K, V, S, P> {
 
 impl<K: Key, V: Value, S, P: Properties> fmt::Debug for GetOrFetch<K, V, S, P> {
     fn fmt(&self, f: &mut fmt::Formatter<'_>) -> fmt::Result {
-        match &self.look {
+        match &*self.look {
             Ok(look) => look.fmt(f),
             Err(error) => error.fmt(f),
         }
@@ -128,7 +128,7 @@ impl<K: Key, V: Value, S, P: Properties> fmt::Debug for GetOrFetch<K, V, S, P> {
 }
 
 // Takes the task of a fetch, if one is begun.
-struct Taken<K: Key, V: Value, S: 'static, P: Properties>(Option<Task<K, V, S, P>>);
+struct Taken<K: Key, V: Value, S: 'static, P: Properties>(Option<Run<K, V, S, P>>);
 
 impl<K: Key, V: Value, S: BuildHasher + Send + Sync + 'static, P: Properties> foyer_raw::Spawner<Task<K, V, S, P>>
     for Taken<K, V, S, P>
@@ -138,12 +138,12 @@ impl<K: Key, V: Value, S: BuildHasher + Send + Sync + 'static, P: Properties> fo
     }
 
     fn spawn(&mut self, task: Task<K, V, S, P>) {
-        self.0 = Some(task);
+        self.0 = Some(Run(Resumed::new(task)));
     }
 }
 
 // A task as one of Rust's futures, after each poll of which a panic of a user's code goes on.
-struct Run<K: Key, V: Value, S: 'static, P: Properties>(Task<K, V, S, P>);
+struct Run<K: Key, V: Value, S: 'static, P: Properties>(Resumed<Task<K, V, S, P>>);
 
 impl<K: Key, V: Value, S, P: Properties> Unpin for Run<K, V, S, P> {}
 
@@ -199,12 +199,16 @@ where
         FO: FnOnce() -> Option<OptionalFetchBuilder<K, V, P>>,
         FR: FnOnce() -> Option<RequiredFetchBuilder<K, V, P>>,
     {
-        let (mut taken, context) = (Taken(None), Arc::clone(&self.clock));
-        let name = Name::new(key.to_owned());
-        let (fo, fr) = (|| fo().map(Optional), || fr().map(Required));
-        let look = resumed(|| self.inner.get_or_fetch_inner(self.clock.now(), &name, fo, fr, context, &mut taken));
-        let task = taken.0.and_then(|task| self.run(Box::pin(Run(task))));
-        GetOrFetch { look: look.map_err(|error| Some(error.into())), task }
+        let (mut taken, context) = (Taken(None), self.clock.clone());
+        // `fr` is called before anything has begun, and `fo` once the fetch is open, which a panic must not keep open.
+        let (fo, fr) = (|| caught(fo).flatten().map(Build::new), || fr().map(Build::new));
+        let look = resumed(|| {
+            let name = Name::new(key.to_owned());
+            self.inner.get_or_fetch_inner(self.clock.now(), &name, fo, fr, context, &mut taken)
+        });
+        let look = Resumed::new(look.map_err(|error| Some(error.into())));
+        let task = taken.0.and_then(|task| self.run(Box::pin(task)));
+        GetOrFetch { look, task }
     }
 
     // Gives a task to the spawner, or back if there is none.

@@ -4,7 +4,7 @@
 //! to: it gets the address of a `Question` instead, which the current thread remembers while the call lasts. Whatever
 //! compares or hashes a name asks first whether it is that question.
 
-use crate::guard::caught;
+use crate::guard::{caught, compared};
 use crate::proved::foyer_policy::HashBuilder;
 use crate::rattle_std::alloc::AllocError;
 use crate::rattle_std::clone::TryClone;
@@ -132,13 +132,12 @@ impl<K: Eq> PartialEq for Name<K> {
     fn eq(&self, other: &Self) -> bool {
         let asked = ASKED.get();
         let is_asked = |name: &Self| ptr::eq(asked, ptr::from_ref(name).cast());
-        caught(|| match (is_asked(self), is_asked(other)) {
+        compared([ptr::from_ref(self).cast(), ptr::from_ref(other).cast()], || match (is_asked(self), is_asked(other)) {
             (false, false) => self.get() == other.get(),
             (true, false) => other.is_asked(asked),
             (false, true) => self.is_asked(asked),
             (true, true) => true,
         })
-        .unwrap_or(false)
     }
 }
 
@@ -147,7 +146,7 @@ impl<K: Eq> Eq for Name<K> {}
 impl<K: Hash> Hash for Name<K> {
     #[inline(always)]
     fn hash<H: Hasher>(&self, state: &mut H) {
-        caught(|| self.get().hash(state));
+        self.get().hash(state);
     }
 }
 
@@ -170,6 +169,7 @@ impl<S: BuildHasher + 'static> HashBuilder for Hashing<S> {
             // SAFETY: `name` is the first field of the question at this address, and the hash the second.
             return unsafe { (*asked.cast::<AnyName<N>>()).hash };
         }
-        self.0.hash_one(name)
+        // A record whose hash isn't known isn't admitted.
+        caught(|| self.0.hash_one(name)).unwrap_or(0)
     }
 }

@@ -1,6 +1,6 @@
 //! Pieces of records, and where evicted ones go.
 
-use crate::guard::{Held, caught};
+use crate::guard::{Held, Resumed, caught};
 use crate::key::Name;
 use crate::properties::{Properties, Props};
 use crate::proved::{foyer_core, foyer_raw};
@@ -17,9 +17,17 @@ pub type BoxFuture<T> = Pin<Box<dyn Future<Output = T> + Send>>;
 type Inner<K, V, P> = foyer_core::Piece<Name<K>, Held<V>, Props<P>>;
 
 /// A record's data without a handle, for a disk cache or for another cache.
-pub struct Piece<K, V, P>(pub(crate) Inner<K, V, P>);
+pub struct Piece<K, V, P>(Resumed<Inner<K, V, P>>);
 
 impl<K, V, P> Piece<K, V, P> {
+    pub(crate) fn new(inner: Inner<K, V, P>) -> Self {
+        Piece(Resumed::new(inner))
+    }
+
+    pub(crate) fn into_inner(self) -> Inner<K, V, P> {
+        self.0.into_inner()
+    }
+
     /// Returns the key.
     pub fn key(&self) -> &K {
         self.0.key().get()
@@ -32,7 +40,7 @@ impl<K, V, P> Piece<K, V, P> {
 
     /// Returns the properties.
     pub fn properties(&self) -> &P {
-        self.0.properties().user.get()
+        self.0.properties().user()
     }
 
     /// Returns the hash of the key.
@@ -44,7 +52,7 @@ impl<K, V, P> Piece<K, V, P> {
 impl<K, V, P> Clone for Piece<K, V, P> {
     /// Returns another piece of the same record. Panics if 2^63 clones are kept.
     fn clone(&self) -> Self {
-        Piece(self.0.try_clone().expect("a reference count is full"))
+        Piece::new(self.0.try_clone().expect("a reference count is full"))
     }
 }
 
@@ -128,11 +136,11 @@ impl<K: 'static, V: 'static, P: Properties> foyer_raw::Pipe for PipeOf<K, V, P> 
     }
 
     fn send(&self, piece: Inner<K, V, P>) {
-        caught(|| self.0.send(Piece(piece)));
+        caught(|| self.0.send(Piece::new(piece)));
     }
 
     fn flush(&self, pieces: Pieces<Inner<K, V, P>>) -> BoxFuture<()> {
-        let flush = caught(|| self.0.flush(pieces.into_iter().map(Piece).collect()));
+        let flush = caught(|| self.0.flush(pieces.into_iter().map(Piece::new).collect()));
         flush.unwrap_or_else(|| Box::pin(std::future::ready(())))
     }
 }

@@ -1,7 +1,7 @@
 //! What comes with a record beside its key and value.
 
 use crate::clock::nanoseconds;
-use crate::guard::Held;
+use crate::guard::{Held, caught};
 use crate::proved::foyer_policy;
 use crate::proved::foyer_policy::{Age, Hint, Location};
 use std::fmt::Debug;
@@ -109,7 +109,8 @@ impl Properties for CacheProperties {
 
 /// Properties as the proved code asks for them. What a user's type says was asked once, before any lock.
 pub(crate) struct Props<P> {
-    pub(crate) user: Held<P>,
+    // None if the default ones panicked.
+    user: Held<Option<P>>,
     // In nanoseconds of the cache's clock, or `NEVER`.
     expires: u64,
     phantom: Option<bool>,
@@ -129,14 +130,28 @@ impl<P: Properties> Props<P> {
             hint: user.hint(),
             location: user.location(),
             age: user.age(),
-            user: Held::new(user),
+            user: Held::new(Some(user)),
         }
+    }
+}
+
+impl<P> Props<P> {
+    /// Returns the user's properties.
+    pub(crate) fn user(&self) -> &P {
+        self.user.get().as_ref().expect("the default properties panicked when this record was made")
     }
 }
 
 impl<P: Properties> Default for Props<P> {
     fn default() -> Self {
-        Props::new(P::default(), None)
+        caught(|| Props::new(P::default(), None)).unwrap_or_else(|| Props {
+            user: Held::new(None),
+            expires: NEVER,
+            phantom: Some(true),
+            hint: None,
+            location: None,
+            age: None,
+        })
     }
 }
 

@@ -2,7 +2,7 @@
 
 use crate::clock::Clock;
 use crate::error::{BoxError, fault_of};
-use crate::guard::{Held, caught, take_panic};
+use crate::guard::{Held, caught, drop_late, take_panic};
 use crate::key::Name;
 use crate::pipe::{BoxFuture, Piece};
 use crate::properties::{Properties, Props};
@@ -11,10 +11,10 @@ use crate::proved::foyer_policy::Fault;
 use crate::proved::foyer_raw;
 use crate::rules::{Key, Value};
 use crate::rattle_std::string::String as Text;
+use crate::rattle_std::sync::Arc;
 use std::any::Any;
 use std::marker::PhantomData;
 use std::pin::Pin;
-use std::sync::Arc;
 use std::task::{Context, Poll};
 
 /// What a fetch gives: a value with its properties, or a piece of the key's record.
@@ -67,19 +67,36 @@ impl<K: Key, V: Value, P: Properties> foyer_raw::FetchTypes<Name<K>, Held<V>, Pr
     type Required = Required<K, V, P>;
 }
 
+/// A user's builder of a fetch. One that isn't called may be dropped under a lock.
+pub(crate) struct Build<B: 'static>(Option<B>);
+
+impl<B> Build<B> {
+    pub(crate) fn new(builder: B) -> Self {
+        Build(Some(builder))
+    }
+}
+
+impl<B> Drop for Build<B> {
+    fn drop(&mut self) {
+        if let Some(builder) = self.0.take() {
+            drop_late(builder);
+        }
+    }
+}
+
 /// The builder of an optional fetch.
-pub(crate) struct Optional<K, V, P>(pub(crate) OptionalFetchBuilder<K, V, P>);
+pub(crate) type Optional<K, V, P> = Build<OptionalFetchBuilder<K, V, P>>;
 
 /// The builder of a required fetch.
-pub(crate) struct Required<K, V, P>(pub(crate) RequiredFetchBuilder<K, V, P>);
+pub(crate) type Required<K, V, P> = Build<RequiredFetchBuilder<K, V, P>>;
 
 impl<K: Key, V: Value, P: Properties> foyer_raw::OptionalFetchBuilder<Name<K>, Held<V>, Props<P>, Arc<Clock>>
     for Optional<K, V, P>
 {
     type Fetch = Guarded<OptionalFetch<FetchTarget<K, V, P>>>;
 
-    fn build(self, clock: &mut Arc<Clock>) -> Self::Fetch {
-        Guarded::new(self.0, clock)
+    fn build(mut self, clock: &mut Arc<Clock>) -> Self::Fetch {
+        Guarded::new(self.0.take(), clock)
     }
 }
 
@@ -88,8 +105,8 @@ impl<K: Key, V: Value, P: Properties> foyer_raw::RequiredFetchBuilder<Name<K>, H
 {
     type Fetch = Guarded<RequiredFetch<FetchTarget<K, V, P>>>;
 
-    fn build(self, clock: &mut Arc<Clock>) -> Self::Fetch {
-        Guarded::new(self.0, clock)
+    fn build(mut self, clock: &mut Arc<Clock>) -> Self::Fetch {
+        Guarded::new(self.0.take(), clock)
     }
 }
 
@@ -101,8 +118,8 @@ pub(crate) struct Guarded<F> {
 }
 
 impl<F> Guarded<F> {
-    fn new(build: impl FnOnce() -> F, clock: &mut Arc<Clock>) -> Self {
-        let future = caught(build).map(Held::new);
+    fn new(build: Option<impl FnOnce() -> F>, clock: &mut Arc<Clock>) -> Self {
+        let future = build.and_then(caught).map(Held::new);
         Guarded { future, clock: Arc::clone(clock) }
     }
 }
@@ -111,21 +128,21 @@ impl<T, F> Guarded<F>
 where
     F: DerefPoll<Output = Result<T, BoxError>>,
 {
-    fn poll_guarded(&mut self, cx: &mut Context<'_>) -> Poll<Result<T, Fault>> {
+    // What it gives is made exact by `make`, which calls the user's code too.
+    fn poll_guarded<U>(&mut self, cx: &mut Context<'_>, make: impl FnOnce(T, &Clock) -> U) -> Poll<Result<U, Fault>> {
         let Some(future) = &mut self.future else {
-            return Poll::Ready(Err(panicked()));
+            return Poll::Ready(Err(panicked(None)));
         };
-        match caught(|| future.get_mut().poll_pinned(cx)) {
-            Some(Poll::Pending) => Poll::Pending,
-            Some(Poll::Ready(result)) => {
-                self.future = None;
-                Poll::Ready(result.map_err(fault_of))
-            }
-            None => {
-                self.future = None;
-                Poll::Ready(Err(panicked()))
-            }
+        let clock = &self.clock;
+        let poll = || match future.get_mut().poll_pinned(cx) {
+            Poll::Pending => Poll::Pending,
+            Poll::Ready(result) => Poll::Ready(result.map(|found| make(found, clock)).map_err(fault_of)),
+        };
+        let ready = caught(poll).unwrap_or_else(|| Poll::Ready(Err(panicked(None))));
+        if ready.is_ready() {
+            self.future = None;
         }
+        ready
     }
 }
 
@@ -148,8 +165,7 @@ impl<K, V, P: Properties> Future for Guarded<OptionalFetch<FetchTarget<K, V, P>>
     type Output = Result<Option<Target<K, V, P>>, Fault>;
 
     fn poll(mut self: Pin<&mut Self>, cx: &mut Context<'_>) -> Poll<Self::Output> {
-        let ready = self.poll_guarded(cx);
-        ready.map(|result| result.map(|found| found.map(|target| exact(target, &self.clock))))
+        self.poll_guarded(cx, |found, clock| found.map(|target| exact(target, clock)))
     }
 }
 
@@ -157,15 +173,14 @@ impl<K, V, P: Properties> Future for Guarded<RequiredFetch<FetchTarget<K, V, P>>
     type Output = Result<Target<K, V, P>, Fault>;
 
     fn poll(mut self: Pin<&mut Self>, cx: &mut Context<'_>) -> Poll<Self::Output> {
-        let ready = self.poll_guarded(cx);
-        ready.map(|result| result.map(|target| exact(target, &self.clock)))
+        self.poll_guarded(cx, exact)
     }
 }
 
 // What was fetched, as the proved code inserts it.
 fn exact<K, V, P: Properties>(target: FetchTarget<K, V, P>, clock: &Clock) -> Target<K, V, P> {
     match target {
-        FetchTarget::Piece(piece) => foyer_core::FetchTarget::Piece(piece.0),
+        FetchTarget::Piece(piece) => foyer_core::FetchTarget::Piece(piece.into_inner()),
         FetchTarget::Entry { value, properties } => {
             let expires = clock.expiry(properties.time_to_live());
             let (value, properties) = (Held::new(value), Props::new(properties, expires));
@@ -174,15 +189,20 @@ fn exact<K, V, P: Properties>(target: FetchTarget<K, V, P>, clock: &Clock) -> Ta
     }
 }
 
-// The fault of a fetch or a maker that panicked, whose message is the panic's. The panic doesn't go on.
-pub(crate) fn panicked() -> Fault {
-    Fault::new(0, Text::from(format!("it panicked: {}", message(take_panic()))))
+// The fault of a fetch or a maker that panicked, whose message is the panic's. A panic that is kept doesn't go on.
+pub(crate) fn panicked(thrown: Option<&Box<dyn Any + Send>>) -> Fault {
+    let message = match thrown {
+        Some(panic) => message(panic.as_ref()),
+        None => take_panic().and_then(|panic| {
+            let message = message(panic.as_ref());
+            std::mem::forget(panic);
+            message
+        }),
+    };
+    Fault::new(0, Text::from(format!("it panicked: {}", message.as_deref().unwrap_or("without a message"))))
 }
 
-fn message(panic: Option<Box<dyn Any + Send>>) -> String {
-    let Some(panic) = panic else {
-        return "without a message".to_owned();
-    };
+fn message(panic: &(dyn Any + Send)) -> Option<String> {
     let text = panic.downcast_ref::<&str>().map(|text| (*text).to_owned());
-    text.or_else(|| panic.downcast_ref::<String>().cloned()).unwrap_or_else(|| "without a message".to_owned())
+    text.or_else(|| panic.downcast_ref::<String>().cloned())
 }

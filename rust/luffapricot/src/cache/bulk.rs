@@ -45,8 +45,8 @@ impl<K: Key, V: Value, S, P: Properties> Cache<K, V, S, P> {
 
     /// Calls `visit` for each record, expired ones included, in the policy's order in each shard, with no lock held.
     pub fn for_each(&self, mut visit: impl FnMut(&K, &V)) {
-        let visited = self.inner.for_each(|key, value| visit(key.get(), value.get()));
-        resumed(|| visited).unwrap_or_else(|error| refused(error));
+        let visited = resumed(|| self.inner.for_each(|key, value| visit(key.get(), value.get())));
+        visited.unwrap_or_else(|error| refused(error));
     }
 
     /// Returns clones of all keys, those of expired records included.
@@ -58,8 +58,8 @@ impl<K: Key, V: Value, S, P: Properties> Cache<K, V, S, P> {
 
     /// Removes the records for which `keep` returns false. It is called with no lock held.
     pub fn retain(&self, mut keep: impl FnMut(&K, &V) -> bool) {
-        let done = self.inner.retain(|key, value| keep(key.get(), value.get()));
-        resumed(|| done).unwrap_or_else(|error| refused(error));
+        let done = resumed(|| self.inner.retain(|key, value| keep(key.get(), value.get())));
+        done.unwrap_or_else(|error| refused(error));
     }
 }
 

@@ -65,18 +65,21 @@ where
         E: Into<BoxError>,
     {
         let mut panic = None;
-        let make = || match catch_unwind(AssertUnwindSafe(make)) {
-            Ok(made) => made.map(Held::new).map_err(|error| fault_of(error.into())),
-            Err(thrown) => {
+        let make = || {
+            let made = || make().map(Held::new).map_err(|error| fault_of(error.into()));
+            catch_unwind(AssertUnwindSafe(made)).unwrap_or_else(|thrown| {
+                let fault = panicked(Some(&thrown));
                 panic = Some(thrown);
-                Err(panicked())
-            }
+                Err(fault)
+            })
         };
         if let Some(entry) = self.get(key) {
             return Ok(entry);
         }
-        let name = Name::new(key.to_owned());
-        let entry = resumed(|| self.inner.get_or_insert_with(self.clock.now(), &name, make));
+        let entry = resumed(|| {
+            let name = Name::new(key.to_owned());
+            self.inner.get_or_insert_with(self.clock.now(), &name, make)
+        });
         if let Some(panic) = panic {
             resume_unwind(panic);
         }

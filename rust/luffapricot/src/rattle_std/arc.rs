@@ -113,8 +113,14 @@ impl<T, A> Arc<T, A> {
             }
         }
         let _block = Block(ManuallyDrop::new(Arc::<T, A> { to: self.to, owns: PhantomData }));
+        // A cache with a poisoned lock panics here, also while its entry's drop unwinds because of that.
         // SAFETY: the last owner drops it once.
-        unsafe { ::std::ptr::drop_in_place(&raw mut (*self.to.as_ptr()).value) }
+        let drop_value = || unsafe { ::std::ptr::drop_in_place(&raw mut (*self.to.as_ptr()).value) };
+        if ::std::thread::panicking() {
+            crate::guard::caught(drop_value);
+        } else {
+            drop_value();
+        }
     }
 }
 

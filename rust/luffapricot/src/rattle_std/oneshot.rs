@@ -2,6 +2,7 @@
 
 use super::alloc::{AllocError, Global};
 use super::arc::Arc;
+use crate::guard::{Held, caught};
 use ::std::pin::Pin;
 use ::std::sync::{Mutex, MutexGuard, PoisonError};
 use ::std::task::{Context, Poll, Waker};
@@ -12,13 +13,13 @@ pub struct Canceled;
 
 struct State<T> {
     value: Option<T>,
-    waker: Option<Waker>,
+    waker: Option<Held<Waker>>,
     is_closed: bool,
 }
 
 type Shared<T> = Arc<Mutex<State<T>>>;
 
-// Nothing under this lock can panic but a waker's clone, which leaves the state as it was.
+// No call of a waker unwinds (see `guard`), so nothing can poison it.
 fn lock<T>(shared: &Shared<T>) -> MutexGuard<'_, State<T>> {
     shared.lock().unwrap_or_else(PoisonError::into_inner)
 }
@@ -60,7 +61,7 @@ impl<T> Drop for Sender<T> {
         let waker = state.waker.take();
         drop(state);
         if let Some(waker) = waker {
-            waker.wake();
+            caught(|| waker.get().wake_by_ref());
         }
     }
 }
@@ -99,7 +100,10 @@ impl<T> Future for Receiver<T> {
             Some(value) => Poll::Ready(Ok(value)),
             None if state.is_closed => Poll::Ready(Err(Canceled)),
             None => {
-                state.waker = Some(cx.waker().clone());
+                // One whose clone panics is woken by the panic, which goes on.
+                if let Some(waker) = caught(|| cx.waker().clone()) {
+                    state.waker = Some(Held::new(waker));
+                }
                 Poll::Pending
             }
         }

@@ -1,0 +1,140 @@
+//! Eight threads over one cache.
+
+mod common;
+
+use common::{Random, block_on, policies};
+use luffapricot::*;
+use std::sync::Arc;
+use std::sync::atomic::{AtomicU64, Ordering::SeqCst};
+
+// A value that says which key it is of.
+#[derive(Clone)]
+struct Page {
+    key: String,
+    serial: u64,
+    sum: u64,
+}
+
+fn sum(key: &str, serial: u64) -> u64 {
+    key.bytes().fold(serial, |sum, byte| sum.rotate_left(9).wrapping_mul(0x9e37_79b9_7f4a_7c15) ^ u64::from(byte))
+}
+
+impl Page {
+    fn new(key: &str, serial: u64) -> Page {
+        Page { key: key.to_owned(), serial, sum: sum(key, serial) }
+    }
+
+    fn check(&self, key: &str) {
+        assert_eq!((self.key.as_str(), self.sum), (key, sum(key, self.serial)));
+    }
+}
+
+// Counts of records, and the sums of their serials.
+#[derive(Default)]
+struct Flow {
+    came: AtomicU64,
+    came_sum: AtomicU64,
+    left: AtomicU64,
+    left_sum: AtomicU64,
+}
+
+impl Flow {
+    fn come(&self, serial: u64) {
+        self.came.fetch_add(1, SeqCst);
+        self.came_sum.fetch_add(serial, SeqCst);
+    }
+}
+
+fn work(cache: &Cache<String, Page>, flow: &Flow, serials: &AtomicU64, seed: u64) {
+    let mut random = Random::new(seed);
+    let mut held = Vec::new();
+    for step in 0..4000 {
+        let key = format!("page-{}", random.below(300));
+        let page = || {
+            let serial = serials.fetch_add(1, SeqCst);
+            flow.come(serial);
+            Page::new(&key, serial)
+        };
+        match random.below(100) {
+            0..30 => cache.insert(key.clone(), page()).check(&key),
+            30..60 => {
+                if let Some(entry) = cache.get(key.as_str()) {
+                    entry.check(&key);
+                    held.push(entry);
+                }
+            }
+            60..70 => {
+                if let Some(entry) = cache.remove(key.as_str()) {
+                    entry.check(&key);
+                    assert!(entry.is_outdated());
+                }
+            }
+            70..85 => {
+                let serial = serials.fetch_add(1, SeqCst);
+                let entry = cache.get_or_insert_with(key.as_str(), || Page::new(&key, serial));
+                entry.check(&key);
+                // Or another page was made or inserted meanwhile.
+                if entry.serial == serial {
+                    flow.come(serial);
+                }
+            }
+            85..90 => {
+                let (serial, own) = (serials.fetch_add(1, SeqCst), key.clone());
+                let fetch = move || async move { Ok::<_, BoxError>(Page::new(&own, serial)) };
+                let entry = block_on(cache.get_or_fetch(key.as_str(), fetch)).unwrap();
+                entry.check(&key);
+                if entry.serial == serial {
+                    flow.come(serial);
+                }
+            }
+            90..98 => held.truncate(random.below(20) as usize),
+            _ => match step % 7 {
+                0 => cache.clear(),
+                1 => cache.resize(50 + random.below(100) as usize).unwrap(),
+                2 => cache.retain(|_, page| page.serial % 3 != 0),
+                3 => block_on(cache.flush()),
+                4 => block_on(cache.flush_if(|_, page| page.serial % 2 == 0)),
+                5 => cache.for_each(|key, page| page.check(key)),
+                _ => cache.evict_all(),
+            },
+        }
+        for entry in held.iter().rev().take(2) {
+            entry.check(entry.key());
+        }
+    }
+}
+
+#[test]
+fn what_came_in_left_or_is_in() {
+    for policy in policies() {
+        let (flow, serials) = (Arc::new(Flow::default()), AtomicU64::new(1));
+        let out = Arc::clone(&flow);
+        let cache: Cache<String, Page> = CacheBuilder::new(100)
+            .with_shards(4)
+            .with_eviction_config(policy)
+            .with_weighter(|key: &String, _: &Page| key.len() % 3 + 1)
+            .with_listener(move |_, key: &String, page: &Page| {
+                page.check(key);
+                out.left.fetch_add(1, SeqCst);
+                out.left_sum.fetch_add(page.serial, SeqCst);
+            })
+            .build();
+        std::thread::scope(|scope| {
+            for seed in 0..8 {
+                let (cache, flow, serials) = (cache.clone(), &flow, &serials);
+                scope.spawn(move || work(&cache, flow, serials, seed));
+            }
+        });
+        let (mut is_in, mut is_in_sum, mut usage) = (0, 0, 0);
+        cache.for_each(|key, page| {
+            page.check(key);
+            (is_in, is_in_sum, usage) = (is_in + 1, is_in_sum + page.serial, usage + key.len() % 3 + 1);
+        });
+        assert_eq!((cache.entries() as u64, cache.usage()), (is_in, usage));
+        assert!(cache.usage() <= cache.capacity());
+        assert_eq!(flow.came.load(SeqCst), flow.left.load(SeqCst) + is_in);
+        assert_eq!(flow.came_sum.load(SeqCst), flow.left_sum.load(SeqCst) + is_in_sum);
+        drop(cache);
+        assert_eq!(flow.came_sum.load(SeqCst), flow.left_sum.load(SeqCst));
+    }
+}
