@@ -31,8 +31,15 @@ pub(crate) fn caught<T>(call: impl FnOnce() -> T) -> Option<T> {
     catch_unwind(AssertUnwindSafe(call)).map_err(keep).ok()
 }
 
-// Of several panics the first one goes on. The others have been printed, and their payloads' drops could panic again.
-// A thread whose locals are gone keeps none.
+// Ends a panic, which has been printed. A payload that isn't a text is leaked, since its drop could panic again.
+pub(crate) fn discard(panic: Option<Thrown>) {
+    match panic {
+        Some(text) if text.is::<&str>() || text.is::<String>() => drop(text),
+        other => std::mem::forget(other),
+    }
+}
+
+// Of several panics the first one goes on. A thread whose locals are gone keeps none.
 #[cold]
 #[inline(never)]
 fn keep(panic: Thrown) {
@@ -41,7 +48,7 @@ fn keep(panic: Thrown) {
         None => kept.set(Some(panic)),
         first => {
             kept.set(first);
-            std::mem::forget(panic);
+            discard(Some(panic));
         }
     });
 }
@@ -62,7 +69,7 @@ pub(crate) fn resumed<T>(call: impl FnOnce() -> T) -> T {
     struct Unwinding;
     impl Drop for Unwinding {
         fn drop(&mut self) {
-            std::mem::forget(take_panic());
+            discard(take_panic());
         }
     }
     let unwinding = Unwinding;
@@ -133,12 +140,12 @@ fn go_on<T>(result: T) -> T {
     match take_panic() {
         None => result,
         Some(panic) if thread::panicking() => {
-            std::mem::forget(panic);
+            discard(Some(panic));
             result
         }
         Some(panic) => {
             caught(|| drop(result));
-            std::mem::forget(take_panic());
+            discard(take_panic());
             resume_unwind(panic)
         }
     }
@@ -177,7 +184,7 @@ pub(crate) fn dropped(call: impl FnOnce()) {
 #[inline(never)]
 fn dropped_unwinding(call: impl FnOnce()) {
     caught(call);
-    std::mem::forget(take_panic());
+    discard(take_panic());
 }
 
 impl<T> Deref for Resumed<T> {

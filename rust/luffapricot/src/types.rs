@@ -2,7 +2,7 @@
 
 use crate::clock::Clock;
 use crate::error::{BoxError, fault_of};
-use crate::guard::{Held, caught, drop_late, take_panic};
+use crate::guard::{Held, caught, discard, drop_late, take_panic};
 use crate::key::Name;
 use crate::pipe::{BoxFuture, Piece};
 use crate::properties::{Properties, Props};
@@ -195,7 +195,7 @@ pub(crate) fn panicked(thrown: Option<&Box<dyn Any + Send>>) -> Fault {
         Some(panic) => message(panic.as_ref()),
         None => take_panic().and_then(|panic| {
             let message = message(panic.as_ref());
-            std::mem::forget(panic);
+            discard(Some(panic));
             message
         }),
     };

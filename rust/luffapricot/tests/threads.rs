@@ -48,7 +48,9 @@ impl Flow {
 fn work(cache: &Cache<String, Page>, flow: &Flow, serials: &AtomicU64, seed: u64) {
     let mut random = Random::new(seed);
     let mut held = Vec::new();
-    for step in 0..4000 {
+    // Under valgrind `STEPS` says how many calls each thread makes.
+    let steps = std::env::var("STEPS").map_or(4000, |steps| steps.parse().expect("a number"));
+    for step in 0..steps {
         let key = format!("page-{}", random.below(300));
         let page = || {
             let serial = serials.fetch_add(1, SeqCst);
@@ -137,4 +139,59 @@ fn what_came_in_left_or_is_in() {
         drop(cache);
         assert_eq!(flow.came_sum.load(SeqCst), flow.left_sum.load(SeqCst));
     }
+}
+
+#[test]
+fn a_spawner_of_threads_runs_one_fetch_a_key() {
+    let fetches = Arc::new(AtomicU64::new(0));
+    let cache: Cache<u64, u64> = Cache::<u64, u64>::builder(1000)
+        .with_spawner(|task| {
+            std::thread::spawn(move || block_on(task));
+        })
+        .build();
+    std::thread::scope(|scope| {
+        for thread in 0..8u64 {
+            let (cache, fetches) = (&cache, &fetches);
+            scope.spawn(move || {
+                for key in 0..20 {
+                    let counted = Arc::clone(fetches);
+                    let fetch = move || async move {
+                        common::yield_now().await;
+                        counted.fetch_add(1, SeqCst);
+                        Ok::<_, BoxError>(key)
+                    };
+                    let wait = cache.get_or_fetch(&key, fetch);
+                    // Half of the callers go: the fetch goes on.
+                    if thread % 2 == 0 {
+                        assert_eq!(*block_on(wait).unwrap(), key);
+                    }
+                }
+            });
+        }
+    });
+    assert_eq!(fetches.load(SeqCst), 20);
+}
+
+#[test]
+fn without_a_spawner_the_first_caller_runs_the_fetch() {
+    let cache: Cache<u64, u64> = Cache::<u64, u64>::builder(10).build();
+    for is_polled in [false, true] {
+        let mut first = cache.get_or_fetch(&1, || async {
+            common::yield_now().await;
+            Ok::<_, BoxError>(1)
+        });
+        if is_polled {
+            assert!(common::poll_once(&mut first).is_pending());
+        }
+        std::thread::scope(|scope| {
+            let others: Vec<_> = (0..4).map(|_| cache.get_or_fetch(&1, || async { Ok::<_, BoxError>(2) })).collect();
+            let others: Vec<_> = others.into_iter().map(|wait| scope.spawn(move || block_on(wait))).collect();
+            drop(first);
+            for other in others {
+                assert_eq!(other.join().unwrap().unwrap_err().number(), 15);
+            }
+        });
+        assert!(!cache.contains(&1));
+    }
+    assert_eq!(*block_on(cache.get_or_fetch(&1, || async { Ok::<_, BoxError>(3) })).unwrap(), 3);
 }

@@ -26,16 +26,16 @@ def headers(text):
 def owner(text, place):
     """Returns the type in whose `impl` a place is, if it is in one."""
     found = None
-    for block in re.finditer(r"^(?:unsafe )?impl\b(.*)$|^\}", text[:place], re.M):
+    for block in re.finditer(r"^(?:unsafe )?impl\b([^{]*)|^\}", text[:place], re.M):
         found = block.group(1) if block.group(0) != "}" else None
     if found is None:
         return None
     # Generics in angle brackets are dropped, and `Trait for Type` is its type.
     depth, plain = 0, ""
-    for letter in found:
+    for letter in found.replace("->", ""):
         depth += (letter == "<") - (letter == ">")
         plain += letter if depth == 0 and letter != ">" else ""
-    words = re.findall(r"\w+", plain.split(" where ")[0])
+    words = re.findall(r"\w+", re.split(r"\bwhere\b", plain)[0])
     return words[words.index("for") + 1] if "for" in words else words[0]
 
 
@@ -120,7 +120,8 @@ def try_snippets(rlib, folder):
         head, *snippets = re.split(r"^// (?=E\d{4}: )", opened.read(), flags=re.M)
     for snippet in snippets:
         wanted, body = snippet[:5], "// " + snippet
-        codes = [code for _, code, _ in errors(rlib, folder, head + body)]
+        # An error of rustc's that has no number counts as E0000.
+        codes = [code or "E0000" for _, code, _ in errors(rlib, folder, head + body)]
         if wanted not in codes:
             sys.exit(f"rustc didn't refuse with {wanted} but {codes}:\n{body}")
     if errors(rlib, folder, head):

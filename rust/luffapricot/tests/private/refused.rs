@@ -28,7 +28,7 @@ fn a_weigher_of_one_thread(told: Cell<u64>) {
     CacheBuilder::<u64, u64>::new(1).with_weighter(move |_, _| told.replace(1) as usize);
 }
 
-// E0277: a fetch whose future isn't Send.
+// E0000: a fetch whose future isn't Send.
 fn a_fetch_of_one_thread(own: Rc<String>) {
     let _ = cache().get_or_fetch(&1, || async move { Ok::<String, BoxError>(own.to_string()) });
 }

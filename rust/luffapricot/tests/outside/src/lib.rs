@@ -16,8 +16,16 @@ pub mod error {
 }
 
 pub mod indexer {
+    pub trait Indexer: 'static {
+        type Eviction;
+    }
+
     pub mod hash_table {
         pub struct HashTableIndexer<E>(std::marker::PhantomData<fn(E)>);
+
+        impl<E: 'static> super::Indexer for HashTableIndexer<E> {
+            type Eviction = E;
+        }
     }
 }
 
@@ -137,6 +145,8 @@ pub mod test_utils {
 
 pub mod raw {
     use crate::eviction::Eviction;
+    use crate::indexer::Indexer;
+    use crate::properties::Properties;
     use itertools::Itertools;
     use luffapricot::{ArcPipe, Cache, CacheBuilder, EventListener};
     use std::hash::BuildHasher;
@@ -170,9 +180,12 @@ pub mod raw {
         pub metrics: Arc<Metrics>,
     }
 
-    pub struct RawCache<E: Eviction, S: 'static, I>(Cache<E::Key, E::Value, S, E::Properties>, PhantomData<fn(I)>);
+    pub struct RawCache<E: Eviction, S: 'static, I: Indexer<Eviction = E>>(
+        Cache<E::Key, E::Value, S, E::Properties>,
+        PhantomData<fn(I)>,
+    );
 
-    impl<E: Eviction, S: HashBuilder, I> RawCache<E, S, I> {
+    impl<E: Eviction, S: HashBuilder, I: Indexer<Eviction = E>> RawCache<E, S, I> {
         pub fn new(config: RawCacheConfig<E, S>) -> Self {
             let (weighter, filter) = (config.weighter, config.filter);
             let mut builder = CacheBuilder::new(config.capacity)
@@ -192,13 +205,13 @@ pub mod raw {
         }
     }
 
-    impl<E: Eviction, S, I> Clone for RawCache<E, S, I> {
+    impl<E: Eviction, S, I: Indexer<Eviction = E>> Clone for RawCache<E, S, I> {
         fn clone(&self) -> Self {
             RawCache(self.0.clone(), PhantomData)
         }
     }
 
-    impl<E: Eviction, S, I> Deref for RawCache<E, S, I> {
+    impl<E: Eviction, S, I: Indexer<Eviction = E>> Deref for RawCache<E, S, I> {
         type Target = Cache<E::Key, E::Value, S, E::Properties>;
 
         fn deref(&self) -> &Self::Target {
