@@ -16,10 +16,10 @@ SECOND = 10**9
 CHUNK = 50  # lines that are written at once
 
 # How often each kind of line comes, of a script with a part of its own for bulk calls.
-KINDS = {"insert": 36, "get": 20, "drop": 10, "touch": 5, "remove": 5, "contains": 4, "phantom": 3, "at": 4, "resize": 3}
+KINDS = {"insert": 36, "get": 20, "drop": 10, "touch": 5, "remove": 5, "contains": 4, "phantom": 3, "at": 7, "resize": 4}
 KINDS |= {"evict": 2, "clear": 1, "high": 1, "strange": 2, "fetch": 8, "done": 4, "cancel": 2}
 # Lines that a mapping without handles, phantoms and fetches knows.
-PLAIN = {"insert": 45, "get": 25, "contains": 5, "remove": 8, "at": 6, "resize": 4, "clear": 1, "strange": 1}
+PLAIN = {"insert": 45, "get": 25, "contains": 5, "remove": 8, "at": 9, "resize": 4, "clear": 1, "strange": 1}
 STRANGE = ("", "  ", "insert 1", "get x", "clear 1", "steal 1", "insert 1 2 3 4 5", "get 1 ", "  get   2", "get -1")
 STRANGE += ("get 18446744073709551616", "get 000000000000000000001", "get 00000000000000000001", "at 99999999999999999999")
 
@@ -122,6 +122,7 @@ class Maker:
         self.heaviest = max(self.capacity // max(self.shards, self.burst // 2), 1)
         self.keys = self.keys_of(self.burst or int(2 ** rng.uniform(2, 9)))
         self.kinds = PLAIN if is_plain else KINDS
+        self.moments = self.moments_of()
 
     def words(self):
         return [self.policy, str(self.capacity), str(self.shards)]
@@ -139,6 +140,14 @@ class Maker:
             return [*{spread(self.rng) for _ in range(count)}]
         return [*{(first + at * step) % 2**64 for at in range(count)}]
 
+    def moments_of(self):
+        """Those at which records expire and to which the time is set, so that these meet. Of a plain script they are whole
+        seconds apart, as a float has lives exactly."""
+        if not self.is_plain:
+            return sorted(spread(self.rng) for _ in range(5))
+        first = spread(self.rng, MOST - 5 * SECOND**2)
+        return sorted(first + SECOND * spread(self.rng, 4 * SECOND) for _ in range(5))
+
     def weight(self):
         if not self.is_heavy:
             return self.rng.choice((0, 1, 1, 1, 2, 3, 5))
@@ -147,9 +156,12 @@ class Maker:
         return min(int(self.heaviest * 2 ** self.rng.uniform(-6, 1)), MOST)
 
     def expiry(self, now):
-        """One that has passed or is to come; of a plain script whole seconds away, as a float has them."""
+        """One that has passed or is to come; of a plain script whole seconds away."""
         if not self.is_plain:
-            return min(max(now + self.rng.choice((-1, 1)) * spread(self.rng), 0), MOST) if self.rng.random() < 0.7 else spread(self.rng)
+            return self.rng.choice(self.moments) if self.rng.random() < 0.8 else spread(self.rng)
+        later = [it for it in self.moments if it > now and (it - now) % SECOND == 0 and it - now < 4 * SECOND**2]
+        if later and self.rng.random() < 0.8:
+            return self.rng.choice(later)
         return now + SECOND * max(spread(self.rng, min((MOST - now) // SECOND, 4 * SECOND)), 1)
 
     def insert(self, key, now, verb="insert"):
@@ -176,7 +188,8 @@ class Maker:
         if kind == "drop":
             return f"drop {rng.choice([*script.held]) if script.held and rng.random() < 0.95 else spread(rng)}"
         if kind == "at":
-            return f"contains {key}" if script.open else f"at {spread(rng) if rng.random() < 0.5 else min(script.now + spread(rng), MOST)}"
+            near = max(rng.choice(self.moments) - rng.choice((0, 0, 1)), 0)
+            return f"contains {key}" if script.open else f"at {near if rng.random() < 0.8 else spread(rng)}"
         if kind == "resize":
             return f"resize {self.capacity if rng.random() < 0.5 else int(self.capacity * rng.random()) if rng.random() < 0.7 else spread(rng)}"
         if kind in ("done", "cancel"):

@@ -51,11 +51,11 @@ static luffa_status add(luffa_cache *cache, uint64_t now, uint64_t key, size_t w
     return luffa_insert(cache, now, &key, 8, &key, 8, weight, expires);
 }
 
-/* Adds the first keys, but those of every third shard, and forgets what was heard. Returns how many. */
+/* Adds the first keys, but those of every fourth shard, and forgets what was heard. Returns how many. */
 static size_t fill(luffa_cache *cache, size_t keys) {
     size_t count = 0;
     for (uint64_t key = 0; key < KEYS; key++) {
-        is_in[key] = key < keys && (luffa_shards(cache) < 3 || key % luffa_shards(cache) % 3 != 0);
+        is_in[key] = key < keys && (luffa_shards(cache) < 3 || key % luffa_shards(cache) % 4 != 2);
         if (is_in[key])
             CHECK(add(cache, 0, key, 1, 0) == LUFFA_OK);
         count += is_in[key];
@@ -150,10 +150,12 @@ static void holding(uint32_t policy) {
 struct making {
     uint64_t now;
     uint64_t expires;
+    int runs;
 };
 
 static int make(void *context, const void *key, size_t key_len, luffa_made *made) {
-    const struct making *making = context;
+    struct making *making = context;
+    making->runs++;
     made->value = key;
     made->value_len = key_len;
     CHECK(made->now == making->now);
@@ -161,12 +163,13 @@ static int make(void *context, const void *key, size_t key_len, luffa_made *made
     return 0;
 }
 
-static luffa_status made(luffa_cache *cache, uint64_t now, uint64_t key, uint64_t expires) {
-    struct making making = {now, expires};
+/* Whether a value was made, and not found. */
+static bool made(luffa_cache *cache, uint64_t now, uint64_t key, uint64_t expires) {
+    struct making making = {now, expires, 0};
     luffa_entry entry;
-    luffa_status status = luffa_get_or_insert(cache, now, &key, 8, make, &making, &entry);
+    CHECK(luffa_get_or_insert(cache, now, &key, 8, make, &making, &entry) == LUFFA_OK && making.runs <= 1);
     luffa_release(&entry);
-    return status;
+    return making.runs == 1;
 }
 
 /* Each look-up finds a record until it expires, by all bits of the time. */
@@ -176,9 +179,7 @@ static void looking_up(uint32_t policy, uint64_t expires) {
     luffa_entry entry;
     size_t len;
     for (int is_made = 0; is_made < 2; is_made++) {
-        if (is_made)
-            CHECK(made(cache, expires, key, expires) == LUFFA_OK && luffa_clear(cache) == LUFFA_OK);
-        CHECK((is_made ? made(cache, 1, key, expires) : add(cache, 1, key, 1, expires)) == LUFFA_OK);
+        CHECK(is_made ? made(cache, 1, key, expires) : add(cache, 1, key, 1, expires) == LUFFA_OK);
         for (uint64_t now = expires - 1; now - expires + 1 < 2; now++) {
             luffa_status wanted = now < expires ? LUFFA_OK : LUFFA_MISSING;
             CHECK(luffa_get(cache, now, &key, 8, &value, 8, &len) == wanted);
@@ -188,11 +189,29 @@ static void looking_up(uint32_t policy, uint64_t expires) {
                 luffa_release(&entry);
         }
         CHECK(luffa_get(cache, 0, &key, 8, &value, 8, &len) == LUFFA_OK); /* time may go back */
+        CHECK(!made(cache, expires - 1, key, 0) && made(cache, expires, key, 0) && luffa_clear(cache) == LUFFA_OK);
     }
     luffa_destroy(cache);
 }
 
-enum evicting { RESIZE, EVICT_ALL, INSERT, MAKE };
+enum evicting { RESIZE, EVICT_ALL, INSERT, INSERT_ENTRY, MAKE };
+
+static bool evicts(luffa_cache *cache, uint64_t now, enum evicting call) {
+    const luffa_terms terms = {.weight = 1};
+    uint64_t key = 10;
+    switch (call) {
+    case RESIZE:
+        return luffa_resize(cache, now, 9) == LUFFA_OK;
+    case EVICT_ALL:
+        return luffa_evict_all(cache, now) == LUFFA_OK;
+    case INSERT:
+        return add(cache, now, key, 1, 0) == LUFFA_OK;
+    case INSERT_ENTRY:
+        return luffa_insert_entry(cache, now, &key, 8, &key, 8, &terms, NULL) == LUFFA_OK;
+    default:
+        return made(cache, now, key, 0);
+    }
+}
 
 /* What has expired leaves first, by all bits of the time. */
 static void evicting(uint32_t policy, uint64_t expires, enum evicting call) {
@@ -201,10 +220,7 @@ static void evicting(uint32_t policy, uint64_t expires, enum evicting call) {
         uint64_t now = expires - !is_late;
         for (uint64_t key = 0; key < 10; key++)
             CHECK(add(cache, 0, key, 1, key == 9 ? expires : 0) == LUFFA_OK);
-        CHECK((call == RESIZE      ? luffa_resize(cache, now, 9)
-               : call == EVICT_ALL ? luffa_evict_all(cache, now)
-               : call == INSERT    ? add(cache, now, 10, 1, 0)
-                                   : made(cache, now, 10, 0)) == LUFFA_OK);
+        CHECK(evicts(cache, now, call));
         CHECK(heard.count > 0 && heard.wrong == 0 && (heard.first == 9) == is_late);
         luffa_destroy(cache);
     }

@@ -69,9 +69,9 @@ fn shard_of(key: u64, shards: u64) -> u64 {
     key.wrapping_mul(256).wrapping_add(u64::from(SEED)) % shards
 }
 
-// Whether a key is put in: those of every third shard aren't.
+// Whether a key is put in: those of every fourth shard aren't.
 fn is_in(key: u64, shards: u64) -> bool {
-    shard_of(key, shards) % 3 != 0
+    shard_of(key, shards) % 4 != 2
 }
 
 // How many keys are put in, of all or of even ones.
@@ -82,7 +82,7 @@ fn count_of(shards: u64, step: usize) -> u64 {
         .count() as u64
 }
 
-// A cache with room for all, of which every third shard is empty, and a removed record.
+// A cache with room for all, of which every fourth shard is empty, and a removed record.
 fn sparse<H: Runtime>(
     rt: H,
     config: EvictionConfig,
