@@ -128,7 +128,7 @@ static void reconfiguring(size_t shards) {
 static void holding(uint32_t policy) {
     static luffa_entry entries[KEYS];
     luffa_cache *cache = listened(policy, KEYS, 1);
-    const luffa_terms terms = {.weight = 1};
+    const luffa_terms terms = {.weight = 1}, phantom = {.weight = 1, .flags = LUFFA_PHANTOM};
     uint64_t other = KEYS;
     for (uint64_t key = 0; key < KEYS; key++)
         CHECK(luffa_insert_entry(cache, 0, &key, 8, &key, 8, &terms, &entries[key]) == LUFFA_OK);
@@ -144,6 +144,14 @@ static void holding(uint32_t policy) {
         CHECK(entries[at].shard == NULL);
     }
     CHECK(heard.count == KEYS + KEYS / 3 && luffa_entries(cache) == 0);
+    for (uint64_t key = 0; key < KEYS; key++) /* a phantom is told once more, when its entry is released */
+        CHECK(luffa_insert_entry(cache, 0, &key, 8, &key, 8, &phantom, &entries[key]) == LUFFA_OK);
+    for (uint64_t key = 0; key < KEYS; key++) {
+        uint64_t at = (key * 2999) % KEYS;
+        heard = (struct heard){0};
+        luffa_release(&entries[at]);
+        CHECK(heard.count == 1 && heard.first == at && heard.event == LUFFA_EVICT);
+    }
     luffa_destroy(cache);
 }
 
@@ -243,8 +251,16 @@ static void shares(uint32_t policy, size_t shards) {
     }
 }
 
+/* Hashes that differ above bit 32 alone lead to shards of their own, if their number is odd. */
+static void high_hashes(uint32_t policy, size_t shards) {
+    luffa_cache *cache = listened(policy, shards, shards);
+    for (uint64_t i = 0; i < shards; i++)
+        CHECK(add(cache, 0, i << 32, 1, 0) == LUFFA_OK && luffa_entries(cache) == i + 1);
+    luffa_destroy(cache);
+}
+
 int main(void) {
-    static const size_t SHARDS[] = {17, 65, 100};
+    static const size_t SHARDS[] = {17, 65, 100, 128};
     static const uint64_t TIMES[] = {(uint64_t)1 << 32, ((uint64_t)1 << 48) + 5, (uint64_t)1 << 56, UINT64_MAX - 1};
     for (uint32_t policy = LUFFA_FIFO; policy <= LUFFA_SIEVE; policy++) {
         all_shards(policy, 1, 5000);
@@ -252,6 +268,8 @@ int main(void) {
         for (size_t i = 0; i < sizeof SHARDS / sizeof *SHARDS; i++) {
             all_shards(policy, SHARDS[i], 1000);
             shares(policy, SHARDS[i]);
+            if (SHARDS[i] % 2 != 0)
+                high_hashes(policy, SHARDS[i]);
             if (policy == LUFFA_LRU)
                 reconfiguring(SHARDS[i]);
         }
