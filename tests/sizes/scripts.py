@@ -76,7 +76,7 @@ class Script:
         """Keeps what a reply gave."""
         given = [int(it) for it in re.findall(r"\bh(\d+)", reply)]
         if words[0] == "drop" and reply == "ok":
-            del self.held[int(words[1])]
+            self.held.pop(int(words[1]), None)
         if words[0] == "at" and reply == "ok":
             self.now = int(words[1])
             self.is_fair &= not self.open
