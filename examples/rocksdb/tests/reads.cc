@@ -105,7 +105,6 @@ rocksdb::Options OptionsOf(const std::shared_ptr<rocksdb::Cache> &cache) {
     rocksdb::Options options;
     rocksdb::BlockBasedTableOptions table;
     table.block_cache = cache;
-    table.cache_index_and_filter_blocks = true;
     options.create_if_missing = true;
     options.compression = rocksdb::kNoCompression;
     options.statistics = rocksdb::CreateDBStatistics();

@@ -170,10 +170,36 @@ static void call(void) {
     }
 }
 
+/* While there is room no page leaves: neither one that was pinned while many others passed, nor one with a new number.
+ */
+static void keep(void) {
+    methods.xCachesize(cache, 60);
+    size = 60;
+    for (unsigned key = 1; key <= 20; key++)
+        fetch(key, 2);
+    for (unsigned key = 100; key < 300; key++) {
+        fetch(key, 2);
+        unpin(key, 0);
+    }
+    for (unsigned key = 1; key <= 20; key++)
+        unpin(key, 0);
+    for (unsigned key = 1; key <= 20; key++)
+        expect(methods.xFetch(cache, key, 0) == known[key].page, "a page that was pinned for long stays");
+    methods.xTruncate(cache, 1);
+    memset(known, 0, sizeof known);
+    fetch(1, 2);
+    rekey(1, 2);
+    unpin(2, 0);
+    fetch(1, 2);
+    expect(methods.xFetch(cache, 2, 0) == known[2].page, "a page with a new number stays");
+    methods.xTruncate(cache, 0);
+    memset(known, 0, sizeof known);
+    pinned = 0;
+}
+
 int main(int count, char **words) {
     if (count < 5 || luffa_pcache_install((uint32_t)atoi(words[1])) != SQLITE_OK)
         return 2;
-    size = (unsigned)atoi(words[2]);
     state = (uint64_t)atoi(words[4]) * 0x9E3779B97F4A7C15u + 1;
     (void)sqlite3_config(SQLITE_CONFIG_GETPCACHE2, &methods);
     (void)sqlite3_config(SQLITE_CONFIG_GETMALLOC, &usual);
@@ -184,6 +210,8 @@ int main(int count, char **words) {
     expect(sqlite3_initialize() == SQLITE_OK, "SQLite begins");
     cache = methods.xCreate(PAGE, EXTRA, 1);
     expect(cache != NULL, "a cache is made");
+    keep();
+    size = (unsigned)atoi(words[2]);
     methods.xCachesize(cache, (int)size);
     refuse = count > 5 ? (unsigned)atoi(words[5]) : 0;
     for (int i = 0; i < atoi(words[3]); i++) {
