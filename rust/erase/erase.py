@@ -6,10 +6,12 @@ erase.py --crate NAME --to FOLDER: writes a crate of tests, or a program, as a R
 
 A form that no rule knows ends it with file and line. rustfmt lays the result out."""
 import argparse
+import glob
 import os
 import re
 import subprocess
 import sys
+import tempfile
 
 sys.dont_write_bytecode = True
 from lex import Refused, lex, text_of
@@ -20,13 +22,13 @@ SHIPPED = ["foyer_policy", "foyer_core", "foyer_raw", "foyer_memory"]
 PROVED = f"{ROOT}/rust/luffapricot/src/proved"
 NOTE = "// Written by rust/erase/erase.py from crates/{}: change that.\n"
 ALLOWED = "#[allow(unused_imports)]\n"
+RUSTFMT = ["rustfmt", "--edition", "2024", "--config", "reorder_imports=false,reorder_modules=false,max_width=110"]
 
 
 def sources_of(crate):
     """The files of a crate, by their paths in it."""
     top = f"{ROOT}/crates/{crate}/src"
-    found = [os.path.join(folder, it) for folder, _, files in os.walk(top) for it in files if it.endswith(".rt")]
-    return {os.path.relpath(it, top): open(it, encoding="utf-8").read() for it in sorted(found)}
+    return {it: open(f"{top}/{it}", encoding="utf-8").read() for it in sorted(glob.glob("**/*.rt", root_dir=top, recursive=True))}
 
 
 def copied_in(texts):
@@ -60,9 +62,9 @@ class Target:
         prelude = f"{NOTE.format(f'{self.name}/src/{path_}')}{ALLOWED}use {self.kit}prelude::*;\n"
         return out[:start] + ("\n" if start else "") + prelude + out[start:]
 
-    def files(self):
-        """All files of the crate in Rust, by their paths."""
-        texts, found = sources_of(self.name), {}
+    def files(self, texts=None):
+        """All files of the crate in Rust, by their paths, or these."""
+        texts, found = texts or sources_of(self.name), {}
         copied = copied_in(texts.values())
         for it, text in texts.items():
             try:
@@ -70,23 +72,6 @@ class Target:
             except Refused as refused:
                 raise Refused(f"crates/{self.name}/src/{it}:{refused}") from None
         return found
-
-
-def laid_out(text):
-    words = ["rustfmt", "--edition", "2024", "--config", "reorder_imports=false,reorder_modules=false,max_width=110"]
-    ran = subprocess.run(words, input=text, capture_output=True, text=True, check=False)
-    if ran.returncode:
-        raise Refused(f"rustfmt: {ran.stderr}")
-    return ran.stdout
-
-
-def modules():
-    """The files of `luffapricot`'s proved modules, laid out, by their paths below PROVED."""
-    found = {}
-    for crate in SHIPPED:
-        for it, text in Target(crate, False).files().items():
-            found[f"{crate}/{'mod.rs' if it == 'lib.rs' else it}"] = laid_out(text)
-    return found
 
 
 def write(folder, files):
@@ -97,8 +82,21 @@ def write(folder, files):
 
 
 def read_all(folder):
-    found = [os.path.join(where, it) for where, _, files in os.walk(folder) for it in files]
-    return {os.path.relpath(it, folder): open(it, encoding="utf-8").read() for it in found}
+    found = [it for it in glob.glob("**/*.rs", root_dir=folder, recursive=True) if it != "mod.rs"]
+    return {it: open(f"{folder}/{it}", encoding="utf-8").read() for it in found}
+
+
+def modules():
+    """The files of `luffapricot`'s proved modules, laid out, by their paths below PROVED."""
+    found = {"mod.rs": "".join(f"mod {it};\n" for it in SHIPPED)}
+    for crate in SHIPPED:
+        found |= {f"{crate}/{'mod.rs' if it == 'lib.rs' else it}": text for it, text in Target(crate, False).files().items()}
+    with tempfile.TemporaryDirectory() as room:
+        write(room, found)
+        ran = subprocess.run([*RUSTFMT, f"{room}/mod.rs"], capture_output=True, text=True, check=False)
+        if ran.returncode:
+            raise Refused(f"rustfmt: {ran.stderr}")
+        return read_all(room)
 
 
 def main():
@@ -114,7 +112,7 @@ def main():
     if not given.check:
         write(given.to, files)
         return 0
-    kept = {it: text for it, text in read_all(given.to).items() if it != "mod.rs"}
+    kept = read_all(given.to)
     wrong = [it for it in {*files, *kept} if files.get(it) != kept.get(it)]
     for it in sorted(wrong):
         print(f"rust/luffapricot/src/proved/{it} isn't what rust/erase/erase.py writes")

@@ -9,38 +9,37 @@ DERIVES = {"Clone", "Copy", "Debug", "Default", "Eq", "Hash", "Ord", "PartialEq"
 GHOST_DERIVES = {"Drop", "Serialize", "Deserialize"}
 MACROS = {"unreachable", "matches", "write", "writeln", "warn", "vec", "format", "println", "eprintln", "print", "eprint"}
 MACROS |= {"assert", "assert_eq", "assert_ne", "panic", "prove", "prove_eq", "prove_ne", "macro_rules", "stringify"}
+# Attributes of a function that `#[inline]` isn't written beside.
+MARKS = {"inline", "cold", "test"}
 OF_SHIM = {"unreachable", "vec", "format", "println", "eprintln", "print", "eprint"}
 WITH_HANDLE = {"println", "eprintln", "print", "eprint", "assert", "assert_eq", "assert_ne", "panic"}
 OF_KIT = {"std", "std_alloc", "futures", "log", "serde", "thiserror", "serde_json"}
 COLLECTS = {"collect", "to_vec", "to_string", "to_owned", "try_collect"}
 
-# How the fields are reached that a `fn drop(self)` takes its value apart for, by type. One that is moved out is a
-# `ManuallyDrop` in the struct; one that is taken is an `Option`.
+# Types with a derived `Clone` whose parts are `TryClone` alone.
+UNCLONED = {"Answer", "Reply"}
+# What a `fn drop(self)` that takes its value apart does with a field, but for what it only lends: Rust lends it the value.
+# A field that it moves out is a `ManuallyDrop` in the struct; one that it takes is an `Option`.
 DROPS = {
-    "Lists": {"nodes": "moved"},
-    "RawCacheEntry": {"shares": "borrowed", "core": "moved"},
-    "Shared": {"shards": "moved", "listener": "borrowed"},
-    "RawFetch": {"state": "copied", "fetch": "borrowed", "key": "taken", "shares": "borrowed"},
-    "RawWait": {"open": "taken"},
-    "Ticket": {"core": "taken"},
-    "Handle": {"entry": "taken"},
-    "Kept": {"handle": "taken"},
-    "Counted": {"digit": "copied", "number": "copied", "drops": "borrowed"},
+    "Lists": {"nodes": "moves"},
+    "RawCacheEntry": {"core": "moves"},
+    "Shared": {"shards": "moves"},
+    "RawFetch": {"state": "copies", "key": "takes"},
+    "RawWait": {"open": "takes"},
+    "Ticket": {"core": "takes"},
+    "Handle": {"entry": "takes"},
+    "Kept": {"handle": "takes"},
+    "Counted": {"digit": "copies", "number": "copies"},
 }
-REACHED = {
-    "borrowed": "&self.{}",
-    "copied": "self.{}",
-    "taken": "self.{}.take()",
-    "moved": "unsafe {{ ::std::mem::ManuallyDrop::take(&mut self.{}) }}",
-}
-MOVED = {(name, field) for name, fields in DROPS.items() for field, how in fields.items() if how == "moved"}
+HOW = {"copies": "*{0}", "takes": "{0}.take()", "moves": "unsafe {{ ::std::mem::ManuallyDrop::take({0}) }}"}
+MOVED = {(name, field) for name, fields in DROPS.items() for field, how in fields.items() if how == "moves"}
 
 
 class Eraser:
     """Goes through the tokens of one file once, and writes those of Rust."""
 
     def __init__(self, tokens, crate, kit, crates, copied):
-        self.tokens, self.out, self.at = tokens, [], 0
+        self.tokens, self.out, self.at, self.is_marked = tokens, [], 0, False
         self.crate, self.kit, self.crates, self.copied = crate, kit, crates, copied
 
     def run(self):
@@ -90,6 +89,7 @@ def attribute(self, token):
         raise Refused(f"{token.line}: the attribute {words[0]}")
     if words[0] == "derive":
         return derive(self, token, words, end)
+    self.is_marked |= words[0] in MARKS
     if words == ["test"]:
         runtime_of_test(self, end)
     self.out += self.tokens[self.at:end]
@@ -103,12 +103,21 @@ def derive(self, token, words, end):
     if unknown:
         raise Refused(f"{token.line}: the derive {unknown.pop()}")
     kept = [it for it in words[1:] if it in DERIVES]
+    if declared(self.tokens, end) in UNCLONED:
+        kept.remove("Clone")
     if "ThisError" in words:
         display(self, end)
     if kept:
         self.write(f"#[derive({', '.join(kept)})]")
     self.at = end + (not kept and self.tokens[end].kind == "ws")
     return True
+
+
+def declared(tokens, at):
+    """The name of the type that is declared from `at` on."""
+    while tokens[at].text not in ("struct", "enum"):
+        at += 1
+    return tokens[significant(tokens, at + 1)].text
 
 
 def display(self, at):
@@ -196,40 +205,34 @@ def clone(self, token):
     if is_bound or before == "impl" or after == "for":
         self.at += 1
         return self.write("TryClone")
+    if before == "::" or after in ("(", "=>"):  # a variant's name
+        return False
     raise Refused(f"{token.line}: a Clone after {before}")
 
 
 def drop_impl(self, body, name):
-    """`fn drop(self)` takes its value apart. If that is all it does, Rust does it by itself."""
+    """`fn drop(self)` takes its value apart, and Rust's is lent it. If that is all it does, Rust does it by itself."""
     end = closing(self.tokens, body)
     inner = text_of(it for it in self.tokens[body:end + 1] if not is_blank(it))
     if re.fullmatch(r"\{fndrop\(self\)\{let\w+([({](\w+:_,?|_,?)+[)}])?=self;\}\}", inner):
         drop_lead(self.out)
         self.at = end + 1
         return True
-    at = next(i for i in range(body, end) if self.tokens[i].text == "self")
-    if self.tokens[at - 2].text == "mut":
-        del self.tokens[at - 2:at]
-        at, end = at - 2, end - 2
-    let = next((i for i in range(at, end) if self.tokens[i].text == "let" and self.tokens[significant(self.tokens, i + 1)].text == name), end)
-    if let == end:
-        self.tokens[at:at + 1] = made("&mut self", self.tokens[at].line)
-        return named_drop(self, body)
-    opens = significant(self.tokens, significant(self.tokens, let + 1) + 1)
-    closes = closing(self.tokens, opens)
-    if name not in DROPS:
-        raise Refused(f"{self.tokens[at].line}: a drop of {name}, which no rule knows")
-    words = text_of(self.tokens[opens + 1:closes]).replace("\n", " ").split(",")
-    fields = [it.strip() for it in words if it.strip() and not it.strip().endswith(": _")]
-    place = dict(zip(fields, map(str, range(len(fields))))) if self.tokens[opens].text == "(" else {}
-    lets = "".join(f"let {it} = {REACHED[DROPS[name][it]].format(place.get(it, it))};\n" for it in fields)
-    last = next(i for i in range(closes, end) if self.tokens[i].text == ";")
-    borrowed = {it for it in fields if DROPS[name][it] == "borrowed"}
+    let = re.search(rf"let{name}[({{]([^;]*)[)}}]=self;", inner)
+    if not let:
+        raise Refused(f"{self.tokens[body].line}: a drop of {name} that doesn't take it apart")
+    fields = [it for it in let[1].split(",") if it and not it.endswith(":_")]
+    if name not in DROPS or DROPS[name].keys().isdisjoint(fields):
+        raise Refused(f"{self.tokens[body].line}: a drop of {name}, which no rule knows")
+    last = next(i for i in range(body, end) if self.tokens[i].text == ";" and self.tokens[i - 1].text == "self")
+    lets = "".join(f"\nlet {it} = {HOW[DROPS[name][it]].format(it)};" for it in fields if it in DROPS[name])
     for i in range(end, last, -1):
-        if self.tokens[i].text == "&" and self.tokens[i + 1].text in borrowed:
-            del self.tokens[i]
-    self.tokens[let:last + 1] = made(lets, self.tokens[let].line)
-    self.tokens[at:at + 1] = made("&mut self", self.tokens[at].line)
+        if self.tokens[i].text == "&" and self.tokens[i + 1].text in {*fields} - {*DROPS[name]}:
+            del self.tokens[i]  # it is lent already
+    self.tokens[last + 1:last + 1] = made(lets, self.tokens[last].line)
+    at = next(i for i in range(body, end) if self.tokens[i].text == "self")
+    start = at - 2 if self.tokens[at - 2].text == "mut" else at
+    self.tokens[start:at + 1] = made("&mut self", self.tokens[at].line)
     return named_drop(self, body)
 
 
@@ -301,20 +304,17 @@ def drop_bound(self, token):
     before, after = self.before().text, self.after(0).text
     if before not in (":", "+") or after not in ("+", ",", ">", "{", "=", "where", ")", ";"):
         return False
-    if after == "+":
-        self.at = significant(self.tokens, significant(self.tokens, self.at + 1) + 1)
-        return True
     self.at += 1
-    if before == "+" or not in_where(self.out):
+    if after == "+":
+        self.at = significant(self.tokens, significant(self.tokens, self.at) + 1)
+    elif before == "+" or not in_where(self.out):
         del self.out[significant(self.out, len(self.out) - 1, -1):]
-        return True
-    while self.out[-1].text not in (",", "where"):
-        self.out.pop()
-    if after == ",":
-        self.at = significant(self.tokens, self.at) + 1
-    if self.out[-1].text == "where" and self.tokens[significant(self.tokens, self.at)].text in ("{", ";"):
-        self.out.pop()
-    self.write(" ")
+    else:
+        while self.out[-1].text not in (",", "where"):
+            self.out.pop()
+        self.at += after == ","
+        if self.out[-1].text == "where" and self.tokens[significant(self.tokens, self.at)].text == "{":
+            self.out.pop()
     return True
 
 
@@ -452,29 +452,16 @@ def macro(self, token):
 
 def function(self, token):
     """Rust inlines a function of another crate if it is generic, small or marked."""
+    is_marked, self.is_marked = self.is_marked, False
     if self.before().text not in ("pub", ")", "}", ";", "]", "{", "unsafe", "const", ""):
         return False
     start, visibility = len(self.out), significant(self.out, len(self.out) - 1, -1)
     ends = (it.text for it in self.tokens[self.at:] if it.text in ("{", ";"))
-    if visibility < 0 or next(ends, ";") == ";":
+    if visibility < 0 or next(ends, ";") == ";" or is_marked:
         return False
     while self.out[visibility].text in ("pub", ")", "crate", "super", "(", "unsafe", "const", "in", "::"):
         start, visibility = visibility, significant(self.out, visibility - 1, -1)
-    if self.out[visibility].text == "]" and is_marked(self.out, visibility):
-        return False
     self.out[start:start] = made("#[inline]\n", token.line)
-    return False
-
-
-def is_marked(out, at):
-    """Whether the attributes that end here say `inline`, `cold` or `test`."""
-    while at >= 0 and out[at].text == "]":
-        start = at
-        while out[start].text != "#":
-            start -= 1
-        if {it.text for it in out[start:at]} & {"inline", "cold", "test"}:
-            return True
-        at = significant(out, start - 1, -1)
     return False
 
 

@@ -4,9 +4,17 @@
  * fetch that stays open from line to line is a call of shard.h.
  */
 #include "../luffapricot.c"
+#include <stdarg.h>
 #include <stdio.h>
 
-enum { MOST = 1 << 16 };
+enum { MOST_DIGITS = 20 };
+
+/* A text that grows. */
+struct text {
+    char *bytes;
+    size_t len;
+    size_t room;
+};
 
 struct waiting {
     uint64_t key;
@@ -15,14 +23,48 @@ struct waiting {
 };
 
 static luffa_cache *cache;
-static luffa_entry handles[MOST];
+static luffa_entry *handles;
 static size_t handed_out;
-static struct waiting waiting[MOST];
+static struct waiting *waiting;
 static size_t waits;
-static char left[1 << 16];
-static size_t left_len;
-static char answers[1 << 16];
+static struct text left;
+static struct text answers;
 static uint64_t now;
+
+/* A place more behind `count` of them. */
+static void *grown(void *items, size_t count, size_t size) {
+    if ((count & (count - 1)) != 0) /* there is room up to the next power of two */
+        return items;
+    void *more = realloc(items, (count ? 2 * count : 1) * size);
+    if (more == NULL)
+        abort();
+    return more;
+}
+
+static size_t hand_out(const luffa_entry *entry) {
+    handles = grown(handles, handed_out, sizeof *handles);
+    handles[handed_out] = *entry;
+    return handed_out++;
+}
+
+static void wait_too(struct waiting it) {
+    waiting = grown(waiting, waits, sizeof *waiting);
+    waiting[waits++] = it;
+}
+
+__attribute__((format(printf, 2, 3))) static void add(struct text *text, const char *format, ...) {
+    va_list list;
+    enum { ENOUGH = 128 };
+    if (text->room - text->len < ENOUGH) {
+        text->room = 2 * text->room + ENOUGH;
+        text->bytes = realloc(text->bytes, text->room);
+        if (text->bytes == NULL)
+            abort();
+    }
+    va_start(list, format);
+    text->len += (size_t)vsnprintf(text->bytes + text->len, ENOUGH, format, list);
+    va_end(list);
+}
 
 static uint64_t key_is_hash(void *context, const void *key, size_t key_len) {
     (void)context;
@@ -37,8 +79,8 @@ static void hear(void *context, int event, const void *key, size_t key_len, cons
     (void)context;
     memcpy(&numbers[0], key, key_len);
     memcpy(&numbers[1], value, value_len);
-    left_len += (size_t)snprintf(left + left_len, sizeof left - left_len, "%s%s %llu=%llu", left_len ? ", " : "",
-                                 EVENTS[event], (unsigned long long)numbers[0], (unsigned long long)numbers[1]);
+    add(&left, "%s%s %llu=%llu", left.len ? ", " : "", EVENTS[event], (unsigned long long)numbers[0],
+        (unsigned long long)numbers[1]);
 }
 
 static uint64_t value_of(const luffa_entry *entry) {
@@ -52,8 +94,7 @@ static void print_refusal(luffa_status status) { printf("F%u", status); }
 /* What a lookup or a removal returned. */
 static void print_found(luffa_status status, const luffa_entry *entry) {
     if (status == LUFFA_OK) {
-        handles[handed_out] = *entry;
-        printf("h%zu %llu", handed_out++, (unsigned long long)value_of(entry));
+        printf("h%zu %llu", hand_out(entry), (unsigned long long)value_of(entry));
     } else if (status == LUFFA_MISSING) {
         printf("none");
     } else {
@@ -79,8 +120,9 @@ static struct slot *slot_at(uint64_t key) { return slot_of(cache, key); }
 
 /* The tokens of a key that were answered, each with what it got, into `answers`. */
 static void collect_answers(uint64_t key, const char *before) {
-    size_t kept = 0, len = 0;
-    answers[0] = 0;
+    size_t kept = 0;
+    answers.len = 0;
+    add(&answers, "%s", "");
     for (size_t i = 0; i < waits; i++) {
         struct waiting it = waiting[i];
         luffa_status status = LUFFA_WAIT;
@@ -95,10 +137,8 @@ static void collect_answers(uint64_t key, const char *before) {
             continue;
         }
         bool is_entry = status == LUFFA_OK;
-        if (is_entry)
-            handles[handed_out] = entry;
-        len += (size_t)snprintf(answers + len, sizeof answers - len, "%st%llu=%c%zu", before,
-                                (unsigned long long)it.token, is_entry ? 'h' : 'F', is_entry ? handed_out++ : status);
+        add(&answers, "%st%llu=%c%zu", before, (unsigned long long)it.token, is_entry ? 'h' : 'F',
+            is_entry ? hand_out(&entry) : status);
         before = " ";
     }
     waits = kept;
@@ -113,8 +153,7 @@ static void insert_line(const uint64_t *n, size_t count, uint32_t flags) {
         return;
     }
     collect_answers(n[0], " "); /* whoever waited has the lower numbers */
-    handles[handed_out] = entry;
-    printf("h%zu%s", handed_out++, answers);
+    printf("h%zu%s", hand_out(&entry), answers.bytes);
 }
 
 static void drop_line(uint64_t number) {
@@ -140,7 +179,7 @@ static void fetch_line(uint64_t key) {
         print_found(status, &entry);
         return;
     }
-    waiting[waits++] = (struct waiting){key, fetch.token, record.number};
+    wait_too((struct waiting){key, fetch.token, record.number});
     if (status == LUFFA_LEAD)
         printf("lead t%llu f%llu", (unsigned long long)fetch.token, (unsigned long long)fetch.fetch);
     else
@@ -162,7 +201,7 @@ static void end_line(uint64_t key, uint64_t fetch, const uint64_t *value) {
         print_refusal(status);
     else {
         collect_answers(key, "");
-        printf("%s", answers);
+        printf("%s", answers.bytes);
     }
 }
 
@@ -211,9 +250,11 @@ static bool carry_out(const char *word, const uint64_t *n, size_t count) {
     return true;
 }
 
-/* Reads a number of digits alone that fits 64 bits. */
+/* Reads a number of at most 20 digits that fits 64 bits. */
 static bool number_of(const char *word, uint64_t *number) {
     *number = 0;
+    if (strlen(word) > MOST_DIGITS)
+        return false;
     for (; *word >= '0' && *word <= '9'; word++)
         if (__builtin_mul_overflow(*number, 10, number) || __builtin_add_overflow(*number, *word - '0', number))
             return false;
@@ -232,17 +273,18 @@ static void tell_line(char *line) {
     }
     if (count == 0)
         return;
-    left_len = 0;
+    left.len = 0;
     if (!is_well || !carry_out(words[0], numbers, count - 1))
         printf("bad line");
     luffa_stats stats = luffa_get_stats(cache);
-    printf(" | %.*s | usage %llu entries %llu\n", left_len ? (int)left_len : 1, left_len ? left : "-",
+    printf(" | %.*s | usage %llu entries %llu\n", left.len ? (int)left.len : 1, left.len ? left.bytes : "-",
            (unsigned long long)stats.usage, (unsigned long long)stats.entries);
 }
 
 int main(int argc, char **argv) {
     static const char *const POLICIES[] = {"fifo", "lru", "lfu", "s3fifo", "sieve"};
-    char line[4096];
+    char *line = NULL;
+    size_t room = 0;
     uint32_t policy = 0;
     if (argc != 4)
         return 2;
@@ -255,10 +297,15 @@ int main(int argc, char **argv) {
     config.listener = hear;
     if (luffa_create(&config, &cache) != LUFFA_OK)
         return 1;
-    while (fgets(line, sizeof line, stdin) != NULL) {
+    while (getline(&line, &room, stdin) != -1) {
         line[strcspn(line, "\n")] = 0;
         tell_line(line);
     }
     luffa_destroy(cache);
+    free(line);
+    free(handles);
+    free(waiting);
+    free(left.bytes);
+    free(answers.bytes);
     return 0;
 }

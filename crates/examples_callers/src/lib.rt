@@ -2,5 +2,6 @@
 #![tactic(auto)]
 
 pub mod cache;
+pub mod memory;
 pub mod policy;
 pub mod session;

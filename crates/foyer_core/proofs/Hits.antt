@@ -39,3 +39,10 @@ module _ {K V P View C : Type 0} (m : Meaning K P View C) (now : ℕ) (s : State
     go : (b : Bool) → is_expired_in m.expires now (s.records id) ≡ b → b ≡ true
     go true e = refl
     go false e = absurd (let n : ◌≡◌ {A = Option ℕ} None (Some id) = sym missed ∙ hit_live id is e in cc)
+
+  -- what is hit is not expired
+  pub hit_fresh : (id : ℕ) → hit m now s k ≡ Some id → is_expired_in m.expires now (s.records id) ≡ false
+  hit_fresh id h = go (is_expired_in m.expires now (s.records id)) refl where
+    go : (b : Bool) → is_expired_in m.expires now (s.records id) ≡ b → b ≡ false
+    go false e = refl
+    go true e = absurd (let n : ◌≡◌ {A = Option ℕ} None (Some id) = sym (hit_expired id (hit_index id h) e) ∙ h in cc)

@@ -53,6 +53,7 @@ pub mod Masks
 pub mod MomentLaws
 pub mod Moments
 pub mod NearLemmas
+pub mod NoEntryLemmas
 pub mod Observing
 pub mod Opening
 pub mod Origins

@@ -28,6 +28,7 @@ pub mod Shards
 pub mod Stores
 pub mod Steps
 pub mod Settled
+pub mod NoEntry
 pub mod CacheProperties
 pub mod Laws
 pub mod Observed

@@ -1,12 +1,12 @@
 //! Cores of a cache: an example of each call, and what no contract says of them.
 
-use crate::testing::{Done, Entry, Leaves, assert_left};
+use crate::testing::{Done, Entry, Leaves, assert_evicted, assert_left};
 use foyer_core::{
     AdmitAll, CacheCore, CacheProperties, Filter, Finder, Inserted, InsertedOnto, Limits, Lookup,
     RawCacheConfig, TagFinder, UnitWeighter, Weighter,
 };
 use foyer_policy::{
-    Error, Event, Eviction, Fifo, HashBuilder, Hint, ModHasher, Properties, Result, Source,
+    Error, Event, Eviction, Fifo, HashBuilder, Hint, ModHasher, Properties, Result, Sieve, Source,
 };
 use std::alloc::Global;
 use std::process::Abort;

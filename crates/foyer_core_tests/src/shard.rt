@@ -1,8 +1,12 @@
 //! One shard by itself: an example of each call that a core doesn't make alone.
 
 use crate::testing::{Done, Entry, assert_left};
-use foyer_core::{Answers, CacheProperties, Data, Finder, InsertedOnto, Limits, Shard, TagFinder};
-use foyer_policy::{Event, Eviction, Fifo, FifoConfig, Lru, LruConfig, Reason, Result, Source};
+use foyer_core::{
+    Answers, CacheProperties, Data, Finder, InsertedOnto, Limits, Shard, Share, TagFinder,
+};
+use foyer_policy::{
+    Event, Eviction, Fifo, FifoConfig, Lru, LruConfig, Properties, Reason, Result, Source,
+};
 use std::alloc::Global;
 use std::process::Abort;
 
@@ -178,4 +182,62 @@ fn refusals_are_foreseen(rt: HostRuntime) -> Done {
     assert!(rt; shard.refuses_get(0, 1, &1) == Some(Reason::Handles));
     release(&rt, &mut shard, held);
     Ok(())
+}
+
+// A put is an insert and its entry's way back; a delete is a remove and its entry's way back.
+#[test]
+fn puts_and_deletes_keep_no_handle(rt: HostRuntime) -> Done {
+    let limits = Limits { handles: 2, ids: 5 };
+    let mut shard: Over<Lru> = empty(rt.alloc(), limits, &LruConfig::default())?;
+    let mut leaves = Vec::new(rt.alloc());
+    for key in [1, 2, 1] {
+        let kept = share(&rt, rt.alloc(), data(key, 1));
+        assert!(rt; shard.put(0, kept, &mut leaves)?.is_none());
+    }
+    assert_left(&rt, &leaves, &[(Event::Replace, 1)]);
+    leaves.clear();
+    let held = hold(&rt, &mut shard, 1);
+    assert_eq!(rt; shard.refs(&held), 1);
+    let phantom = Data {
+        properties: CacheProperties::default().with_phantom(true),
+        ..data(1, 1)
+    };
+    let put = shard.put(0, share(&rt, rt.alloc(), phantom), &mut leaves);
+    let (event, left) = put.expect(&rt, "a put").expect(&rt, "a phantom leaves");
+    assert_eq!(rt;
+        (event, *left.key(), shard.refs(&held)),
+        (Event::Evict, 1, 1)
+    );
+    assert_left(&rt, &leaves, &[(Event::Replace, 1), (Event::Remove, 1)]);
+    assert!(rt; shard.is_outdated(&held));
+    release(&rt, &mut shard, held);
+    let held = hold(&rt, &mut shard, 2);
+    let deleted = shard.delete(2, &2).expect(&rt, "a delete");
+    let left = deleted.expect(&rt, "a record");
+    assert_eq!(rt; (*left.key(), shard.refs(&held), shard.usage()), (2, 1, 0));
+    release(&rt, &mut shard, held);
+    assert!(rt; shard.delete(2, &2)?.is_none());
+    let kept = share(&rt, rt.alloc(), data(3, 1));
+    assert!(rt; shard.put(0, kept, &mut leaves)?.is_none());
+    let refused = shard.put(0, share(&rt, rt.alloc(), data(4, 1)), &mut leaves);
+    assert!(rt; refused.is_err() && shard.entries() == 1);
+    let (first, second) = (hold(&rt, &mut shard, 3), hold(&rt, &mut shard, 3));
+    assert!(rt; shard.delete(3, &3).is_err() && shard.entries() == 1);
+    release(&rt, &mut shard, first);
+    let deleted = shard.delete(3, &3).expect(&rt, "a delete");
+    assert!(rt; deleted.is_some() && shard.entries() == 0);
+    release(&rt, &mut shard, second);
+    Ok(())
+}
+
+// The first share of a record's data.
+fn share(
+    rt: &impl Abort,
+    alloc: Global,
+    kept: Data<u64, u64, CacheProperties>,
+) -> Share<u64, u64, CacheProperties> {
+    match Share::new(alloc, kept) {
+        Ok(share) => share,
+        Err(_) => panic!(rt; "no memory"),
+    }
 }

@@ -76,7 +76,7 @@ fn discard_all(mut handles: Vec<Handle>) {
     handles.destroy_empty();
 }
 
-impl<H: Wait + RandomSource + Alloc<A = Global> + Copy + Drop, E: Eviction> Both<H, E> {
+impl<H: Wait + RandomSource + Alloc<A = Global> + Copy + Drop + 'static, E: Eviction> Both<H, E> {
     // What the core handed out.
     fn note(&mut self, leaves: Vec<Leave<u32, u64, CacheProperties>>) -> Outcome {
         for (event, left) in leaves.as_slice() {

@@ -1,7 +1,7 @@
 //! Another configuration of the policy, while the cache is in use.
 
 use crate::testing::{Cache, Outcome, all_policies, builder, number};
-use foyer_memory::{EvictionConfig, LruConfig, S3FifoConfig};
+use foyer_memory::{EvictionConfig, LfuConfig, LruConfig, S3FifoConfig};
 use foyer_policy::Ratio;
 use foyer_raw_tests::notes::Note::Evict;
 use foyer_raw_tests::notes::Notes;
@@ -74,17 +74,16 @@ fn s3fifo_takes_another_threshold(rt: HostRuntime) -> Outcome {
 // A configuration of another policy is F17, also where it has a fault; one of its own is refused with that.
 #[test]
 fn what_is_refused_changes_nothing(rt: HostRuntime) -> Outcome {
-    let faulty = serde_json::from_str(
-        rt.alloc(),
-        "{\"Lfu\":{\"window_capacity_ratio\":{\"num\":1,\"den\":10},\
-         \"protected_capacity_ratio\":{\"num\":8,\"den\":10},\
-         \"cmsketch_buckets\":0,\"cmsketch_hashes\":4}}",
-    )?;
+    let faulty = EvictionConfig::from(LfuConfig {
+        window_capacity_ratio: Ratio { num: 1, den: 10 },
+        protected_capacity_ratio: Ratio { num: 8, den: 10 },
+        cmsketch_buckets: 0,
+        cmsketch_hashes: 4,
+    });
     let wanted = |config: &EvictionConfig| match config {
         EvictionConfig::Lfu(_) => Some(6),
         _ => Some(17),
     };
-    let faulty: EvictionConfig = faulty;
     for config in all_policies() {
         let notes = Notes::new(rt.alloc())?;
         let refusal = wanted(&config);

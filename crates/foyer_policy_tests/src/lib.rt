@@ -14,6 +14,8 @@ mod ghost_queue;
 #[cfg(test)]
 mod hash;
 #[cfg(test)]
+mod json;
+#[cfg(test)]
 mod lists;
 #[cfg(test)]
 mod moments;

@@ -107,7 +107,7 @@ impl<H: Wait + Drop> Future for Crossing<H> {
 }
 
 // The waits for each key, and the tasks of the fetches.
-fn crossings<H: Wait + Drop>(
+fn crossings<H: Wait + Drop + 'static>(
     cache: &Fetching<H>,
     alloc: Global,
     spawner: &mut Tasks<H>,

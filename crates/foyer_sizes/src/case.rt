@@ -135,6 +135,17 @@ impl<H: Runtime> Cases<H> {
         Ok(())
     }
 
+    /// Runs a case of a cache with so many shards for each policy.
+    pub fn of_shards<F: Fn(EvictionConfig) -> Outcome>(
+        &mut self,
+        name: &str,
+        shards: u64,
+        case: F,
+    ) -> Outcome {
+        let name = format!(in self.rt.alloc(); "each of {shards} shards {name}")?;
+        self.of_each_policy(&name, case)
+    }
+
     /// Prints how a case has ended.
     pub fn print(&mut self, name: &str, policy: &str, ended: Outcome) -> Outcome {
         let rt = self.rt;

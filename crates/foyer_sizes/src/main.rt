@@ -14,9 +14,11 @@ mod departures;
 mod handles;
 mod hashes;
 mod heard;
+mod made;
 mod moments;
 mod records;
 mod shards;
+mod sparse;
 mod waits;
 mod weights;
 
@@ -38,6 +40,8 @@ fn run<H: Runtime>(cases: &mut Cases<H>) -> Outcome {
     handles::run(cases)?;
     departures::run(cases)?;
     shards::run(cases)?;
+    sparse::run(cases)?;
+    made::run(cases)?;
     hashes::run(cases)?;
     waits::run(cases)?;
     cores::run(cases)

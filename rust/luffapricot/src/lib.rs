@@ -12,10 +12,23 @@ mod guard;
 mod key;
 mod pipe;
 mod properties;
+#[cfg(not(luffa_internals))]
 mod proved;
+#[cfg(not(luffa_internals))]
 mod rattle_std;
 mod rules;
 mod types;
+
+/// For the tests of the proved modules alone (`rust/tests`).
+#[cfg(luffa_internals)]
+#[doc(hidden)]
+#[allow(missing_docs)]
+pub mod proved;
+/// For the tests of the proved modules alone (`rust/tests`).
+#[cfg(luffa_internals)]
+#[doc(hidden)]
+#[allow(missing_docs)]
+pub mod rattle_std;
 
 pub use builder::CacheBuilder;
 pub use cache::Cache;

@@ -1,6 +1,7 @@
 //! What a core does with a key, beside a `get`, and with an entry that it owns.
 
-ghost use Rattle.std.specs.Prelude.{◌≡◌, ◌↔◌, [], None, IsTrue, MatchResult, option_map};
+ghost use Rattle.std.specs.Prelude.{◌≡◌, ◌↔◌, [], None, IsSomeAnd, IsTrue, MatchResult, option_map};
+ghost use Rattle.std.specs.Fn.{FnOnceReturnsAt};
 ghost use Rattle.std.specs.Option.{option_to_list};
 ghost use Rattle.foyer_policy.specs.declared.types.Event.TheVariants.{Remove};
 
@@ -25,10 +26,43 @@ impl<
     I: Finder<K>,
 > CacheCore<E, K, V, P, S, W, A, N, R, I> {
     ghost use Rattle.foyer_core.specs.CallLaws.{CallLaws};
-    ghost use Rattle.foyer_core.specs.Core.{AtShard, IsOutdatedIn, Owns, refs_in};
+    ghost use Rattle.foyer_core.specs.Core.{AtShard, IsOutdatedIn, Owns, refs_in, shard_at};
     ghost use Rattle.foyer_core.specs.Cores.{core_of, fetches_of, hashes_of, meaning_of_core};
     ghost use Rattle.foyer_core.specs.Laws.{one_of};
+    ghost use Rattle.foyer_core.specs.NoEntry.{Peeks, Reads};
     ghost use Rattle.foyer_core.specs.Steps.{ClonesHandle, GivesBack, Removes, Touches};
+
+    /// Counts a use of the record that the key hits at `now`, and returns what `look` makes of its value.
+    ///
+    /// No entry is made and no handle is left over. Takes no memory.
+    ///
+    /// # Errors
+    /// F9 if the handle count would pass its limit; nothing has changed.
+    #[inline(always)]
+    pub fn read<T, F: FnOnce(&V) -> T>(&mut self, now: u64, key: &K, look: F) -> Result<Option<T>>
+        requires callable { F.IsAlwaysCallable look }
+        ensures reads { let hash = S.hash_of (core_of self.old).hash_builder (K.hash_input key.now) in
+            AtShard (λ s t. Reads (meaning_of_core self.old) now s (hash, key.now) (FnOnceReturnsAt F.FnOnce look) result t)
+            hash (core_of self.old) (core_of self.new) }
+        ensures fetches { fetches_of self.new ≡ fetches_of self.old }
+        ensures laws { CallLaws K.eq (hashes_of self.old) (λ _. 0) (core_of self.old) [] (core_of self.new) }
+    {
+        let hash = self.hash(key);
+        let place = self.shard_index(hash);
+        self.shards[place].read(now, hash, key, look)
+    }
+
+    /// Returns what `look` makes of the value that the key hits at `now`. It counts no use, and takes no memory.
+    #[inline(always)]
+    pub fn peek<T, F: FnOnce(&V) -> T>(&self, now: u64, key: &K, look: F) -> Option<T>
+        requires callable { F.IsAlwaysCallable look }
+        ensures { let hash = S.hash_of (core_of self.now).hash_builder (K.hash_input key.now) in
+            IsSomeAnd (shard_at (core_of self.now) hash)
+            (λ s. Peeks (meaning_of_core self.now) now s (hash, key.now) (FnOnceReturnsAt F.FnOnce look) result) }
+    {
+        let hash = self.hash(key);
+        self.shards[self.shard_index(hash)].peek(now, hash, key, look)
+    }
 
     /// Returns whether a `get` at `now` finds the key, and if so counts a use of its record. Takes no memory.
     ///

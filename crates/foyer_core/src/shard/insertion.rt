@@ -29,6 +29,7 @@ impl<E: Eviction, K: Key, V: Value, P: Properties, N: Drop, R: Drop, I: Finder<K
     ghost use Rattle.foyer_core.specs.Bulk.{GoesOn};
     ghost use Rattle.foyer_core.specs.State.{at_moment, key_of};
     ghost use Rattle.foyer_core.specs.Steps.{Inserts, RefusesInsert, newcomer};
+    ghost use Rattle.foyer_core.specs.NoEntry.{Puts};
     ghost use Rattle.foyer_core.specs.Pieces.{InsertsPiece, coming_under, is_known};
 
     /// Inserts a record, and returns an entry of it with this source and one for each caller that waits for its key.
@@ -166,6 +167,29 @@ impl<E: Eviction, K: Key, V: Value, P: Properties, N: Drop, R: Drop, I: Finder<K
         ensures opens { opens_of self.new ≡ opens_of self.old }
     {
         self.store.place(now, kept, entry, leaves)
+    }
+
+    /// Inserts a record with this share of its data as `emplace` does, while no fetch is open, and takes its entry back, as
+    /// one step that makes none. Appends what leaves, and returns what left with the entry: a phantom record.
+    ///
+    /// # Errors
+    /// Those of `emplace`.
+    #[inline(always)]
+    pub fn put(
+        &mut self,
+        now: u64,
+        kept: Share<K, V, P>,
+        leaves: &mut Vec<Leave<K, V, P>>,
+    ) -> Result<Option<Leave<K, V, P>>>
+        requires clones { (k c : K) → K.is_clone k c → K.eq c k ≡ true }
+        requires alone { (k : ℕ × K) → (opens_of self.old).by_key k ≡ None }
+        ensures puts { GoesOn leaves.old.items leaves.new.items (λ ls. MatchResult result
+            (λ last. Puts (meaning_of self.old) now (state_of self.old) (newcomer (state_of self.old) kept 1) ls last (state_of self.new))
+            (λ error. RefusesInsert (at_moment now (meaning_of self.old)) (state_of self.old)
+            (newcomer (state_of self.old) kept 1) error ls (state_of self.new))) }
+        ensures opens { opens_of self.new ≡ opens_of self.old }
+    {
+        self.store.put(now, kept, leaves)
     }
 
     // Inserts as `emplace` does, if there are open fetches.

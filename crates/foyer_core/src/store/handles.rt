@@ -56,7 +56,21 @@ impl<E: Eviction, K: Key, V: Value, P: Properties, I: Finder<K>> Store<E, K, V, 
         if entry.number() != self.number {
             return Err(Foreign);
         }
-        let Some(slot) = self.records.find(entry.id(), entry.slot()) else {
+        self.take_back_at(entry.id(), entry.slot())
+    }
+
+    // Takes a handle of an id back, whose record may be in the hinted slot, and returns what left with it.
+    #[inline(always)]
+    pub(super) fn take_back_at(
+        &mut self,
+        id: u64,
+        hint: usize,
+    ) -> std::result::Result<Option<Leave<K, V, P>>, Foreign>
+        ensures taken { IfOk result (λ leave. GivesBack (meaning_of self.old) (state_of self.old) id leave (state_of self.new)) }
+        ensures foreign { OnErr result (handles_in (state_of self.old) id ≡ 0) }
+        ensures err { OnErr result (state_of self.new ≡ state_of self.old) }
+    {
+        let Some(slot) = self.records.find(id, hint) else {
             return Err(Foreign);
         };
         let Some(found) = self.records.get(slot) else {

@@ -24,6 +24,7 @@ impl<E: Eviction, K: Key, V: Value, P: Properties, I: Finder<K>> Store<E, K, V, 
     ghost use Rattle.foyer_core.specs.Bulk.{GoesOn};
     ghost use Rattle.foyer_core.specs.Steps.{Inserts, RefusesInsert, RefusesPlain, MayBy, MayInsert, newcomer};
     ghost use Rattle.foyer_core.specs.Settled.{Settles, SettlesPlain};
+    ghost use Rattle.foyer_core.specs.NoEntry.{Puts};
 
     /// Inserts a record as `Shard::emplace` does, and returns one handle and as many more as `further` says. Appends
     /// what leaves.
@@ -112,6 +113,33 @@ impl<E: Eviction, K: Key, V: Value, P: Properties, I: Finder<K>> Store<E, K, V, 
         };
         entry.set_place(number, id, slot);
         Ok(())
+    }
+
+    /// Inserts a record of which no entry is wanted, as `Shard::put` does.
+    #[inline(always)]
+    pub(crate) fn put(
+        &mut self,
+        now: u64,
+        kept: Share<K, V, P>,
+        leaves: &mut Vec<Leave<K, V, P>>,
+    ) -> Result<Option<Leave<K, V, P>>>
+        requires clones { (k c : K) → K.is_clone k c → K.eq c k ≡ true }
+        ensures puts { GoesOn leaves.old.items leaves.new.items (λ ls. MatchResult result
+            (λ last. Puts (meaning_of self.old) now (state_of self.old) (newcomer (state_of self.old) kept 1) ls last (state_of self.new))
+            (λ error. RefusesInsert (at_moment now (meaning_of self.old)) (state_of self.old)
+            (newcomer (state_of self.old) kept 1) error ls (state_of self.new))) }
+    {
+        if let Some(reason) = self.share_refusal(&kept, 0) {
+            return Err(Error::new(reason));
+        }
+        let id = self.next;
+        let Some(slot) = self.insert_slot(now, Slot::outside(kept, id, 1), leaves) else {
+            return Err(Error::new(Reason::NoMemory));
+        };
+        match self.take_back_at(id, slot) {
+            Ok(last) => Ok(last),
+            Err(_) => unreachable!(),
+        }
     }
 
     // Inserts a record that only F7 can refuse, and makes handles of it. Appends what leaves.

@@ -1,34 +1,71 @@
 //! Calls on a key, beside `get`.
 
 ghost use Rattle.std.specs.Prelude.{◌≡◌};
+ghost use Rattle.std.specs.Fn.{FnOnceReturnsAt};
 
 use super::Store;
 use crate::entry::{CoreEntry, Left};
 use crate::finder::Finder;
+use crate::prefetch;
 use foyer_policy::{Error, Eviction, Key, Place, Properties, Reason, Result, Source, Value};
 
 impl<E: Eviction, K: Key, V: Value, P: Properties, I: Finder<K>> Store<E, K, V, P, I> {
     ghost use Rattle.foyer_core.specs.Stores.{state_of, meaning_of};
-    ghost use Rattle.foyer_core.specs.Steps.{Touches, Removes};
+    ghost use Rattle.foyer_core.specs.NoEntry.{Deletes, Peeks, Reads};
+    ghost use Rattle.foyer_core.specs.Steps.{Removes, Touches};
 
-    /// Returns whether a `get` at `now` finds the key, and if so counts a use of its record, as `Shard::touch` does.
-    pub fn touch(&mut self, now: u64, hash: u64, key: &K) -> Result<bool>
-        ensures touches { Touches (meaning_of self.old) now (state_of self.old) (hash, key.now) result (state_of self.new) }
+    /// Counts a use of the record that the key hits at `now`, and returns what `look` makes of its value, as `Shard::read`
+    /// does.
+    #[inline(always)]
+    pub fn read<T, F: FnOnce(&V) -> T>(
+        &mut self,
+        now: u64,
+        hash: u64,
+        key: &K,
+        look: F,
+    ) -> Result<Option<T>>
+        requires callable { F.IsAlwaysCallable look }
+        ensures reads { Reads (meaning_of self.old) now (state_of self.old) (hash, key.now)
+            (FnOnceReturnsAt F.FnOnce look) result (state_of self.new) }
     {
         let Some((slot, found)) = self.live_under(now, hash, key) else {
-            return Ok(false);
+            return Ok(None);
         };
         let handles = found.handles();
         if handles >= self.limits.handles {
             return Err(Error::new(Reason::Handles));
         }
         let place = Place::at(slot);
+        prefetch::keep(self.eviction.look_ahead(place));
+        let seen = look(found.value());
         self.eviction.acquire(place);
         if handles > 0 {
-            return Ok(true);
+            return Ok(Some(seen));
         }
         self.eviction.release(place);
-        Ok(true)
+        Ok(Some(seen))
+    }
+
+    /// Returns what `look` makes of the value that the key hits at `now`, as `Shard::peek` does.
+    #[inline(always)]
+    pub fn peek<T, F: FnOnce(&V) -> T>(&self, now: u64, hash: u64, key: &K, look: F) -> Option<T>
+        requires callable { F.IsAlwaysCallable look }
+        ensures { Peeks (meaning_of self.now) now (state_of self.now) (hash, key.now) (FnOnceReturnsAt F.FnOnce look) result }
+    {
+        let Some((_slot, found)) = self.live_under(now, hash, key) else {
+            return None;
+        };
+        Some(look(found.value()))
+    }
+
+    /// Returns whether a `get` at `now` finds the key, and if so counts a use of its record, as `Shard::touch` does.
+    pub fn touch(&mut self, now: u64, hash: u64, key: &K) -> Result<bool>
+        ensures touches { Touches (meaning_of self.old) now (state_of self.old) (hash, key.now) result (state_of self.new) }
+    {
+        match self.read(now, hash, key, |_value| ()) {
+            Ok(found) => Ok(found.is_some()),
+            Err(error) => Err(error),
+        }
     }
 
     /// Removes the key's record and returns an entry of it and the record as it left, as `Shard::remove` does.
@@ -57,5 +94,21 @@ impl<E: Eviction, K: Key, V: Value, P: Properties, I: Finder<K>> Store<E, K, V, 
         self.entries -= 1;
         self.records.add_handle(slot);
         Ok(Some((entry, self.records.leave(slot, self.number))))
+    }
+    /// Removes the key's record, of which no entry is wanted, and returns it as it left, as `Shard::delete` does.
+    pub fn delete(&mut self, hash: u64, key: &K) -> Result<Option<Left<K, V, P>>>
+        ensures deletes { Deletes (meaning_of self.old) (state_of self.old) (hash, key.now) result (state_of self.new) }
+    {
+        let Some(slot) = self.slot_under(hash, key) else {
+            return Ok(None);
+        };
+        let Some(found) = self.records.get(slot) else {
+            unreachable!();
+        };
+        if found.handles() >= self.limits.handles {
+            return Err(Error::new(Reason::Handles));
+        }
+        let id = found.id();
+        Ok(Some(self.take_out(id, slot)))
     }
 }

@@ -83,3 +83,22 @@ fn a_piece_brings_its_record_back(rt: HostRuntime) -> Done {
     assert_left(&rt, &leaves, &[(Event::Evict, 2)]);
     Ok(())
 }
+
+// A read counts a use and keeps no handle; a peek counts none. What has expired is seen by neither.
+#[test]
+fn reads_and_peeks_see_values(rt: HostRuntime) -> Done {
+    let mut core: Core<Sieve> = CacheCore::new(rt.alloc(), config(2, 1))?;
+    put_tenfold(&rt, &mut core, 1);
+    put_tenfold(&rt, &mut core, 2);
+    assert_eq!(rt; core.peek(0, &1, |value| value + 1), Some(11));
+    assert!(rt;
+        core.read(0, &3, |value| *value)?.is_none() && core.peek(0, &3, |value| *value).is_none()
+    );
+    assert_evicted(&rt, &put_tenfold(&rt, &mut core, 3), &[1]);
+    assert_eq!(rt; core.read(0, &2, |value| value + 1)?, Some(21));
+    assert_evicted(&rt, &put_tenfold(&rt, &mut core, 4), &[3]);
+    let entry = found(&rt, &mut core, 2);
+    assert_eq!(rt; core.refs(&entry), 1);
+    release(&rt, &mut core, entry);
+    Ok(())
+}

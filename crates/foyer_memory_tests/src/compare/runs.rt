@@ -6,13 +6,13 @@ use foyer_core::{AdmitAll, Limits, RawCacheConfig, UnitWeighter};
 use foyer_memory::{EvictionConfig, FifoConfig, LfuConfig, LruConfig, S3FifoConfig, SieveConfig};
 use foyer_policy::{Fifo, Lfu, Lru, S3Fifo, Sieve};
 use log::Log;
-use std::test::Fail;
+use std::process::Abort;
 
-// Makes 2,000 calls of a cache and of a core, and is an error where they differ, with the number of that call.
-fn agree<H: Wait + Log + RandomSource + Alloc<A = Global> + Copy + Drop, E: Eviction>(
-    rt: H,
-    config: EvictionConfig,
-) -> Outcome
+// Makes 2,000 calls of a cache and of a core, and ends where they differ, with the number of that call.
+fn agree<
+    H: Wait + Log + RandomSource + Alloc<A = Global> + Abort + Copy + Drop + 'static,
+    E: Eviction,
+>(rt: H, config: EvictionConfig) -> Outcome
 where
     E::Config: Default,
 {
@@ -49,9 +49,8 @@ where
             .wrapping_add(1442695040888963407);
         let (pick, key) = (state / (1 << 61), state / (1 << 32) % 16);
         both.now = number / 4 + state / (1 << 40) % 8;
-        if !both.step(rt, pick, key as u32, number)? || !both.agree() {
-            return Err(Fail::from(number));
-        }
+        let agrees = both.step(rt, pick, key as u32, number)? && both.agree();
+        assert!(rt; agrees, "call {number}");
     }
     Ok(())
 }

@@ -71,12 +71,7 @@ fn the_sums_are_told(rt: HostRuntime) -> Result<(), Fail> {
 }
 
 #[test]
-fn commands_and_replies_can_be_cloned_and_shown(rt: HostRuntime) -> Result<(), Fail> {
-    let mut session = filled(rt.alloc(), 1)?;
-    let command: Plain = insert(1, 11);
-    assert!(rt; command.clone()? == command);
-    let reply = session.step(command)?;
-    assert!(rt; reply.clone()? == reply);
+fn commands_can_be_shown(rt: HostRuntime) -> Result<(), Fail> {
     let shown = format!(in rt.alloc(); "{:?}", Plain::FlushIf(EvenKeys))?;
     assert_eq!(rt; shown.as_str(), "FlushIf(EvenKeys)");
     Ok(())

@@ -6,7 +6,7 @@ use foyer_session::End;
 use std::sync::Arc;
 
 // Two ask for the key 7, of whom the second brings a builder.
-fn two_wait(rt: &impl Abort, session: &mut SessionOf<Fifo>) -> Result<(), Fail> {
+pub(super) fn two_wait(rt: &impl Abort, session: &mut SessionOf<Fifo>) -> Result<(), Fail> {
     let lead = answer(session, Plain::GetOrFetch(0, 7, None))?;
     assert!(rt; lead == Answer::Lead { fetch: 0, token: 0 });
     let wait = answer(session, Plain::GetOrFetch(0, 7, Some(30)))?;
@@ -41,7 +41,6 @@ fn a_value_answers_all(rt: HostRuntime) -> Result<(), Fail> {
     };
     assert_eq!(rt; record.as_ref().map(|record| *record.value()), Some(70));
     assert_two_got(&rt, answers, [Some(0), Some(1)]);
-    assert!(rt; reply.clone()? == reply);
     assert!(rt; answer(&mut session, Plain::IsOpen(7, 0))? == Answer::No);
     Ok(())
 }

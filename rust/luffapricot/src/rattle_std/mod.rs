@@ -9,6 +9,8 @@ pub mod alloc;
 pub mod arc;
 pub mod clone;
 pub mod collections;
+#[cfg(luffa_internals)]
+mod for_tests;
 pub mod futures;
 pub mod hash;
 pub mod oneshot;

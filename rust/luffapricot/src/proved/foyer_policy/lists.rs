@@ -166,8 +166,12 @@ impl<T, const N: usize> Drop for Lists<T, N> {
         for list in 0..self.count() {
             self.clear(list);
         }
-        let nodes = unsafe { ::std::mem::ManuallyDrop::take(&mut self.nodes) };
-
+        let Lists {
+            nodes,
+            heads: _,
+            tails: _,
+        } = self;
+        let nodes = unsafe { ::std::mem::ManuallyDrop::take(nodes) };
         nodes.destroy_empty();
     }
 }

@@ -44,9 +44,8 @@ where
 {
     #[inline]
     fn drop(&mut self) {
-        let shares = &self.shares;
-        let core = unsafe { ::std::mem::ManuallyDrop::take(&mut self.core) };
-
+        let RawCacheEntry { shares, core } = self;
+        let core = unsafe { ::std::mem::ManuallyDrop::take(core) };
         shares.give_back(core);
     }
 }

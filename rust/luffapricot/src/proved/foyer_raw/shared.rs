@@ -37,9 +37,13 @@ where
 {
     #[inline]
     fn drop(&mut self) {
-        let shards = unsafe { ::std::mem::ManuallyDrop::take(&mut self.shards) };
-        let listener = &self.listener;
-
+        let Shared {
+            shards,
+            hash_builder: _,
+            rules: _,
+            listener,
+        } = self;
+        let shards = unsafe { ::std::mem::ManuallyDrop::take(shards) };
         shards.finish(listener);
     }
 }

@@ -27,8 +27,8 @@ pub struct Ticket<K, V, P> {
 impl<K, V, P> Drop for Ticket<K, V, P> {
     #[inline]
     fn drop(&mut self) {
-        let core = self.core.take();
-
+        let Ticket { core } = self;
+        let core = core.take();
         if let Some(core) = core {
             core.discard();
         }

@@ -24,6 +24,26 @@ impl<
     I: Finder<K>,
 > CacheCore<E, K, V, P, S, W, A, N, R, I>
 {
+    /// Counts a use of the record that the key hits at `now`, and returns what `look` makes of its value.
+    ///
+    /// No entry is made and no handle is left over. Takes no memory.
+    ///
+    /// # Errors
+    /// F9 if the handle count would pass its limit; nothing has changed.
+    #[inline(always)]
+    pub fn read<T, F: FnOnce(&V) -> T>(&mut self, now: u64, key: &K, look: F) -> Result<Option<T>> {
+        let hash = self.hash(key);
+        let place = self.shard_index(hash);
+        self.shards[place].read(now, hash, key, look)
+    }
+
+    /// Returns what `look` makes of the value that the key hits at `now`. It counts no use, and takes no memory.
+    #[inline(always)]
+    pub fn peek<T, F: FnOnce(&V) -> T>(&self, now: u64, key: &K, look: F) -> Option<T> {
+        let hash = self.hash(key);
+        self.shards[self.shard_index(hash)].peek(now, hash, key, look)
+    }
+
     /// Returns whether a `get` at `now` finds the key, and if so counts a use of its record. Takes no memory.
     ///
     /// # Errors

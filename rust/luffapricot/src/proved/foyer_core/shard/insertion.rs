@@ -104,6 +104,21 @@ impl<E: Eviction, K: Key, V: Value, P: Properties, N, R, I: Finder<K>> Shard<E, 
         self.store.place(now, kept, entry, leaves)
     }
 
+    /// Inserts a record with this share of its data as `emplace` does, while no fetch is open, and takes its entry back, as
+    /// one step that makes none. Appends what leaves, and returns what left with the entry: a phantom record.
+    ///
+    /// # Errors
+    /// Those of `emplace`.
+    #[inline(always)]
+    pub fn put(
+        &mut self,
+        now: u64,
+        kept: Share<K, V, P>,
+        leaves: &mut Vec<Leave<K, V, P>>,
+    ) -> Result<Option<Leave<K, V, P>>> {
+        self.store.put(now, kept, leaves)
+    }
+
     // Inserts as `emplace` does, if there are open fetches.
     #[cold]
     #[inline(never)]

@@ -9,6 +9,29 @@ use crate::proved::foyer_core::finder::Finder;
 use crate::proved::foyer_policy::{Eviction, Key, Properties, Result, Value};
 
 impl<E: Eviction, K: Key, V: Value, P: Properties, N, R, I: Finder<K>> Shard<E, K, V, P, N, R, I> {
+    /// Counts a use of the record that the key hits at `now`, and returns what `look` makes of its value.
+    ///
+    /// No entry is made and no handle is left over. Takes no memory.
+    ///
+    /// # Errors
+    /// F9 if the handle count would pass its limit; nothing has changed.
+    #[inline(always)]
+    pub fn read<T, F: FnOnce(&V) -> T>(
+        &mut self,
+        now: u64,
+        hash: u64,
+        key: &K,
+        look: F,
+    ) -> Result<Option<T>> {
+        self.store.read(now, hash, key, look)
+    }
+
+    /// Returns what `look` makes of the value that the key hits at `now`. It counts no use, and takes no memory.
+    #[inline(always)]
+    pub fn peek<T, F: FnOnce(&V) -> T>(&self, now: u64, hash: u64, key: &K, look: F) -> Option<T> {
+        self.store.peek(now, hash, key, look)
+    }
+
     /// Returns whether a `get` at `now` finds the key, and if so counts a use of its record. Takes no memory.
     ///
     /// # Errors
@@ -27,5 +50,15 @@ impl<E: Eviction, K: Key, V: Value, P: Properties, N, R, I: Finder<K>> Shard<E, 
     #[inline]
     pub fn remove(&mut self, hash: u64, key: &K) -> Result<Option<(CoreEntry<K, V, P>, Left<K, V, P>)>> {
         self.store.remove(hash, key)
+    }
+    /// Removes the key's record, expired or not, and returns it as it left (`Remove`). No entry is made.
+    ///
+    /// Takes no memory.
+    ///
+    /// # Errors
+    /// F9 if the handle count would pass its limit; nothing has changed.
+    #[inline]
+    pub fn delete(&mut self, hash: u64, key: &K) -> Result<Option<Left<K, V, P>>> {
+        self.store.delete(hash, key)
     }
 }

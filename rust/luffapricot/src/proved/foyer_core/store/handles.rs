@@ -41,7 +41,17 @@ impl<E: Eviction, K: Key, V: Value, P: Properties, I: Finder<K>> Store<E, K, V, 
         if entry.number() != self.number {
             return Err(Foreign);
         }
-        let Some(slot) = self.records.find(entry.id(), entry.slot()) else {
+        self.take_back_at(entry.id(), entry.slot())
+    }
+
+    // Takes a handle of an id back, whose record may be in the hinted slot, and returns what left with it.
+    #[inline(always)]
+    pub(super) fn take_back_at(
+        &mut self,
+        id: u64,
+        hint: usize,
+    ) -> crate::rattle_std::result::Result<Option<Leave<K, V, P>>, Foreign> {
+        let Some(slot) = self.records.find(id, hint) else {
             return Err(Foreign);
         };
         let Some(found) = self.records.get(slot) else {

@@ -72,6 +72,27 @@ impl<E: Eviction, K: Key, V: Value, P: Properties, I: Finder<K>> Store<E, K, V, 
         Ok(())
     }
 
+    /// Inserts a record of which no entry is wanted, as `Shard::put` does.
+    #[inline(always)]
+    pub(crate) fn put(
+        &mut self,
+        now: u64,
+        kept: Share<K, V, P>,
+        leaves: &mut Vec<Leave<K, V, P>>,
+    ) -> Result<Option<Leave<K, V, P>>> {
+        if let Some(reason) = self.share_refusal(&kept, 0) {
+            return Err(Error::new(reason));
+        }
+        let id = self.next;
+        let Some(slot) = self.insert_slot(now, Slot::outside(kept, id, 1), leaves) else {
+            return Err(Error::new(Reason::NoMemory));
+        };
+        match self.take_back_at(id, slot) {
+            Ok(last) => Ok(last),
+            Err(_) => crate::rattle_std::macros::unreachable!(),
+        }
+    }
+
     // Inserts a record that only F7 can refuse, and makes handles of it. Appends what leaves.
     #[inline(always)]
     pub(super) fn emplace_slot(

@@ -134,11 +134,20 @@ where
 {
     #[inline]
     fn drop(&mut self) {
-        let state = self.state;
-        let fetch = &self.fetch;
-        let key = self.key.take();
-        let shares = &self.shares;
-
+        let RawFetch {
+            state,
+            fetch,
+            key,
+            shares,
+            context: _,
+            optional: _,
+            required: _,
+            optional_fetch: _,
+            required_fetch: _,
+            fault: _,
+        } = self;
+        let state = *state;
+        let key = key.take();
         if state == RawFetchState::Ready {
             return;
         }

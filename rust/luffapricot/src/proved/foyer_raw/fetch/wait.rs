@@ -69,8 +69,8 @@ where
 {
     #[inline]
     fn drop(&mut self) {
-        let open = self.open.take();
-
+        let RawWait { open } = self;
+        let open = open.take();
         let Some((shares, mut waiter)) = open else {
             return;
         };

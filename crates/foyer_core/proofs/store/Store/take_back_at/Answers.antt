@@ -15,14 +15,14 @@ use Rattle.foyer_core.proofs.GivingBack.{
   released_weight,
   released_entries,
 }
-use Rattle.foyer_core.proofs.store.Store.take_back.Goals as goal
+use Rattle.foyer_core.proofs.store.Store.take_back_at.Goals as goal
 
 pub unreachable-requires : goal.unreachable-requires
 unreachable-requires g c =
     let s = c.args.self.now in
-    let named : number_of s.records c.id.result ≡ Some c.in-Some.slot = sym c.find.ensures ∙ c.in-Some.is in
+    let named : number_of s.records c.args.id ≡ Some c.in-Some.slot = sym c.find.ensures ∙ c.in-Some.is in
     let none : slot_in s.records c.in-Some.slot ≡ None = sym (rw c.in_default-get.is at c.get.ensures) in
-    none_not (slot_in s.records c.in-Some.slot) (named_there s.records c.id.result c.in-Some.slot named) none
+    none_not (slot_in s.records c.in-Some.slot) (named_there s.records c.args.id c.in-Some.slot named) none
 
 pub invariant_of-self : goal.invariant_of-self
 invariant_of-self g c =
@@ -48,29 +48,24 @@ pub returns-then-handles-gt1-clause-taken : goal.returns-then-handles-gt1-clause
 returns-then-handles-gt1-clause-taken g c =
     let s = c.args.self.now in
     let m = meaning_of s in
-    let named : number_of s.records c.args.entry.now.id ≡ Some c.in-Some.slot =
-    sym (ap (number_of s.records) c.id.ensures) ∙ sym c.find.ensures ∙ c.in-Some.is in
+    let named : number_of s.records c.args.id ≡ Some c.in-Some.slot =
+    sym c.find.ensures ∙ c.in-Some.is in
     let x = c.in-Some-get.found.now in
     let there : slot_in s.records c.in-Some.slot ≡ Some x = sym (rw c.in-Some-get.is at c.get.ensures) in
     let t = c.take_handle.new.self in
-    let write = c.take_handle.ensures.slots x there in (
-      omega (arith, c.number.ensures, c.if-number-self.false),
-      took_gives m g.met.K.Eq.laws g.met.E.Eviction.lawful (holding s) c.in-Some.slot x there t write
-          c.take_handle.ensures.ids (omega (arith, c.handles-handles.ensures, c.if-handles-gt1.true)) c.args.entry.now.id
-          named,
-    )
+    let write = c.take_handle.ensures.slots x there in
+    took_gives m g.met.K.Eq.laws g.met.E.Eviction.lawful (holding s) c.in-Some.slot x there t write
+    c.take_handle.ensures.ids (omega (arith, c.handles-handles.ensures, c.if-handles-gt1.true)) c.args.id named
 
 pub returns-then-not-is_resident-clause-taken : goal.returns-then-not-is_resident-clause-taken
 returns-then-not-is_resident-clause-taken g c =
     let s = c.args.self.now in
-    let named : number_of s.records c.args.entry.now.id ≡ Some c.in-Some.slot =
-    sym (ap (number_of s.records) c.id.ensures) ∙ sym c.find.ensures ∙ c.in-Some.is in
+    let named : number_of s.records c.args.id ≡ Some c.in-Some.slot =
+    sym c.find.ensures ∙ c.in-Some.is in
     let x = c.in-Some-get.found.now in
-    let there : slot_in s.records c.in-Some.slot ≡ Some x = sym (rw c.in-Some-get.is at c.get.ensures) in (
-      omega (arith, c.number.ensures, c.if-number-self.false),
-      subst (λ (id : ℕ). GivesBack (meaning_of s) (state_of s) id c.forget.result (state_of c.forget.new.self))
-          (named_id s.records c.args.entry.now.id c.in-Some.slot named x there) (c.forget.ensures x there),
-    )
+    let there : slot_in s.records c.in-Some.slot ≡ Some x = sym (rw c.in-Some-get.is at c.get.ensures) in
+    subst (λ (id : ℕ). GivesBack (meaning_of s) (state_of s) id c.forget.result (state_of c.forget.new.self))
+    (named_id s.records c.args.id c.in-Some.slot named x there) (c.forget.ensures x there)
 
 pub release-requires : goal.release-requires
 release-requires g c =
@@ -114,8 +109,8 @@ pub returns-clause-taken : goal.returns-clause-taken
 returns-clause-taken g c =
     let s = c.args.self.now in
     let m = meaning_of s in
-    let named : number_of s.records c.args.entry.now.id ≡ Some c.in-Some.slot =
-    sym (ap (number_of s.records) c.id.ensures) ∙ sym c.find.ensures ∙ c.in-Some.is in
+    let named : number_of s.records c.args.id ≡ Some c.in-Some.slot =
+    sym c.find.ensures ∙ c.in-Some.is in
     let x = c.in-Some-get.found.now in
     let there : slot_in s.records c.in-Some.slot ≡ Some x = sym (rw c.in-Some-get.is at c.get.ensures) in
     let res : x.resident ≡ true = sym c.is_resident.ensures ∙ c.if-not-is_resident.false in
@@ -125,8 +120,6 @@ returns-clause-taken g c =
     let view = g.E.Eviction.view c.release.new.self in
     let viewed : view ≡ m.policy.release (g.E.Eviction.view s.eviction) x.id = rw at at c.release.ensures.view in
     let t = c.take_handle-2.new.self in
-    let write = c.take_handle-2.ensures.slots x there in (
-      omega (arith, c.number.ensures, c.if-number-self.false),
-      released_gives m g.met.K.Eq.laws g.met.E.Eviction.lawful (holding s) c.in-Some.slot x there t write
-          c.take_handle-2.ensures.ids one res view viewed c.args.entry.now.id named,
-    )
+    let write = c.take_handle-2.ensures.slots x there in
+    released_gives m g.met.K.Eq.laws g.met.E.Eviction.lawful (holding s) c.in-Some.slot x there t write
+    c.take_handle-2.ensures.ids one res view viewed c.args.id named

@@ -1,0 +1,3 @@
+//! What warnings go to.
+
+pub use luffapricot::rattle_std::log::*;
