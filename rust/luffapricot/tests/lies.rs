@@ -144,7 +144,8 @@ fn cheat(policy: &EvictionConfig, one_in: [u64; 3]) -> usize {
         }
         // Also while the thread unwinds, a broken cache is dropped without a second panic.
         let ended = thrown(|| {
-            let _hands = (hands, cache);
+            // An entry is the last owner.
+            let _owners = (cache, hands);
             assert!(broken % 2 == 0, "boom");
         });
         assert!(rest > 0 || ended.is_ok() || broken % 2 == 1);
