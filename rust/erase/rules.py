@@ -204,7 +204,7 @@ def clone_impl(self, body, name):
 def clone(self, token):
     """`Clone` as a bound or a trait, and its method."""
     before, after = self.before().text, self.after(0).text
-    is_bound = before in (":", "+", "=") and after in ("+", ",", ">", "{", "=", "where", ")", ";")
+    is_bound = before in (":", "+") and after in ("+", ",", ">", "{", "=", "where", ")", ";")
     if is_bound or before == "impl" or after == "for":
         self.at += 1
         return self.write("TryClone")
@@ -228,6 +228,9 @@ def drop_impl(self, body, name):
     if name not in DROPS or DROPS[name].keys().isdisjoint(fields):
         raise Refused(f"{self.tokens[body].line}: a drop of {name}, which no rule knows")
     last = next(i for i in range(body, end) if self.tokens[i].text == ";" and self.tokens[i - 1].text == "self")
+    for i in range(end, last, -1):
+        if self.tokens[i].text == "&" and self.tokens[i + 1].text in {*fields} - {*DROPS[name]}:
+            del self.tokens[i]  # what is lent is a reference already
     lets = "".join(f"\nlet {it} = {HOW[DROPS[name][it]].format(it)};" for it in fields if it in DROPS[name])
     self.tokens[last + 1:last + 1] = made(lets, self.tokens[last].line)
     at = next(i for i in range(body, end) if self.tokens[i].text == "self")

@@ -44,7 +44,7 @@ where
             listener,
         } = self;
         let shards = unsafe { ::std::mem::ManuallyDrop::take(shards) };
-        shards.finish(&listener);
+        shards.finish(listener);
     }
 }
 
