@@ -37,12 +37,7 @@ def copied_in(texts):
 
 def start_of(text):
     """The index after a file's first lines: comments on the module and attributes of the whole."""
-    at = 0
-    for line in text.splitlines(keepends=True):
-        if line.strip() and not line.startswith(("//!", "#![")):
-            return at
-        at += len(line)
-    return at
+    return re.match(r"(?:\s*\n|//![^\n]*\n|#!\[[^\n]*\n)*", text).end()
 
 
 class Target:

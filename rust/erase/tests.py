@@ -45,8 +45,8 @@ WRITES = [
      " ::std::mem::ManuallyDrop::take(nodes) }; nodes.end(); } }"),
     ("drops that lend and copy", "impl Drop for Counted { fn drop(self) { let Counted(digit, all) = self; add(&all, digit); } }",
      "impl Drop for Counted { #[inline] fn drop(&mut self) { let Counted(digit, all) = self; let digit = *digit; add(all, digit); } }"),
-    ("bounds", "fn f<K: Drop, V: Eq + Drop, W: Drop + Eq>(); fn g() where K: Drop, V: Eq {} fn h() where K: Drop, {}",
-     "fn f<K, V: Eq, W: Eq>(); #[inline] fn g() where V: Eq {} #[inline] fn h() {}"),
+    ("bounds", "fn f<K: Drop, V: Eq + Drop, W: Drop + Eq>(); fn g() where K: Drop, V: Eq {} fn h() where K: Drop, {} fn i() where V: Eq, K: Drop {}",
+     "fn f<K, V: Eq, W: Eq>(); #[inline] fn g() where V: Eq {} #[inline] fn h() {} #[inline] fn i() where V: Eq, {}"),
     ("sizes", "pub trait A { fn f(self); } trait B<T>: Eq { fn g() -> Self; } trait C { fn h(&self); }",
      "pub trait A: Sized { fn f(self); } trait B<T>: Sized + Eq { fn g() -> Self; } trait C { fn h(&self); }"),
     ("what allocates", "x.collect::<Vec<_>>(alloc)?; y.to_vec(*s.allocator())?; z.collect();",
@@ -59,7 +59,10 @@ WRITES = [
     ("fmt", "impl Debug for S { fn fmt<W: fmt::Write>(&self, f: &mut fmt::Formatter<W>) -> fmt::Result { g(f) } }",
      "impl Debug for S { #[inline] fn fmt(&self, f: &mut fmt::Formatter<'_>) -> fmt::Result { g(f) } }"),
     ("macros", 'println!(rt; "a"); assert!(&self.rt; b); format!(in s.alloc; "c"); vec![in alloc; 0; 9]; prove!(d); unreachable!(); assert!(e);',
-     'K::macros::println!("a"); K::macros::assert!(b); K::macros::format!("c"); K::macros::vec![0; 9]; debug_assert!(d); K::macros::unreachable!(); assert!(e);'),
+     'K::macros::println!("a"); K::macros::assert!(b); K::macros::format!("c"); K::macros::vec![0; 9]; debug_assert!(d);'
+     " K::macros::unreachable!(); assert!(e);"),
+    ("what both write", "let a: Result<u8, E> = f(|x| -x.0 << 1)?; match a { Ok(1..=2) => (), Err(_) => return }",
+     "let a: Result<u8, E> = f(|x| -x.0 << 1)?; match a { Ok(1..=2) => (), Err(_) => return }"),
     ("comments stay", "// why\nlet a = 'b'; /* c */ let d = \"ensures { }\";", "// why\nlet a = 'b'; /* c */ let d = \"ensures { }\";"),
 ]
 ENDS = [
