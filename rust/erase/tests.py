@@ -63,6 +63,8 @@ WRITES = [
      " K::macros::unreachable!(); assert!(e);"),
     ("what both write", "let a: Result<u8, E> = f(|x| -x.0 << 1)?; match a { Ok(1..=2) => (), Err(_) => return }",
      "let a: Result<u8, E> = f(|x| -x.0 << 1)?; match a { Ok(1..=2) => (), Err(_) => return }"),
+    ("a ghost item's comments", "// Of the file.\n\n// Of the item.\nghost use A.b;\nlet a = 1; // of a\nghost use C.d;\nf();",
+     "// Of the file.\n let a = 1; // of a\n f();"),
     ("comments stay", "// why\nlet a = 'b'; /* c */ let d = \"ensures { }\";", "// why\nlet a = 'b'; /* c */ let d = \"ensures { }\";"),
 ]
 ENDS = [
