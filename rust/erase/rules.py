@@ -112,9 +112,8 @@ def derive(self, token, words, end):
     unknown = {*words[1:]} - DERIVES - GHOST_DERIVES - {"ThisError"}
     if unknown:
         raise Refused(f"{token.line}: the derive {unknown.pop()}")
-    kept = [it for it in words[1:] if it in DERIVES]
-    if declared(self.tokens, end) in UNCLONED:
-        kept.remove("Clone")
+    lost = {"Clone"} if declared(self.tokens, end) in UNCLONED else set()
+    kept = [it for it in words[1:] if it in DERIVES - lost]
     if "ThisError" in words:
         display(self, end)
     if kept:
