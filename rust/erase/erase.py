@@ -37,12 +37,7 @@ def copied_in(texts):
 
 def start_of(text):
     """The index after a file's first lines: comments on the module and attributes of the whole."""
-    at = 0
-    for line in text.splitlines(keepends=True):
-        if line.strip() and not line.startswith(("//!", "#![")):
-            return at
-        at += len(line)
-    return at
+    return re.match(r"(?:\s*\n|//![^\n]*\n|#!\[[^\n]*\n)*", text).end()
 
 
 class Target:
@@ -75,10 +70,15 @@ class Target:
 
 
 def write(folder, files):
+    """Writes the files that have changed, and removes Rust's files that there are beside them, but for mod.rs."""
+    was = read_all(folder)
+    for it in was.keys() - files.keys():
+        os.remove(f"{folder}/{it}")
     for it, text in files.items():
-        os.makedirs(os.path.dirname(f"{folder}/{it}"), exist_ok=True)
-        with open(f"{folder}/{it}", "w", encoding="utf-8") as file:
-            file.write(text)
+        if was.get(it) != text:
+            os.makedirs(os.path.dirname(f"{folder}/{it}"), exist_ok=True)
+            with open(f"{folder}/{it}", "w", encoding="utf-8") as file:
+                file.write(text)
 
 
 def read_all(folder):

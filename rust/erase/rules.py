@@ -74,6 +74,13 @@ class Eraser:
         self.out += made(text, self.tokens[self.at].line)
         return True
 
+    def drop_use(self):
+        """Drops the `use` that this token is in."""
+        self.at = next(i for i in range(self.at, len(self.tokens)) if self.tokens[i].text == ";") + 1
+        while self.out.pop().text != "use":
+            pass
+        return True
+
 
 def attribute(self, token):
     """`#[..]`: ghost ones go, and a derive loses what Rust doesn't derive."""
@@ -102,9 +109,8 @@ def derive(self, token, words, end):
     unknown = {*words[1:]} - DERIVES - GHOST_DERIVES - {"ThisError"}
     if unknown:
         raise Refused(f"{token.line}: the derive {unknown.pop()}")
-    kept = [it for it in words[1:] if it in DERIVES]
-    if declared(self.tokens, end) in UNCLONED:
-        kept.remove("Clone")
+    lost = {"Clone"} if declared(self.tokens, end) in UNCLONED else set()
+    kept = [it for it in words[1:] if it in DERIVES - lost]
     if "ThisError" in words:
         display(self, end)
     if kept:
@@ -145,16 +151,13 @@ def arm(name, message, of, fields):
 
 def runtime_of_test(self, at):
     """`#[test] fn name(rt: HostRuntime)`: the runtime becomes a variable."""
-    while self.tokens[at].text != "(":
-        at += 1
-    end = closing(self.tokens, at)
-    given = text_of(self.tokens[at + 1:end]).strip().rstrip(",")
+    opens = next(i for i in range(at, len(self.tokens)) if self.tokens[i].text == "(")
+    end = closing(self.tokens, opens)
+    given = text_of(self.tokens[opens + 1:end]).strip().rstrip(",")
     if given:
-        body = end
-        while self.tokens[body].text != "{":
-            body += 1
+        body = next(i for i in range(end, len(self.tokens)) if self.tokens[i].text == "{")
         self.tokens[body + 1:body + 1] = made(f"\nlet {given} = HostRuntime;", self.tokens[body].line)
-        del self.tokens[at + 1:end]
+        del self.tokens[opens + 1:end]
 
 
 def head(tokens, at):
@@ -201,7 +204,7 @@ def clone_impl(self, body, name):
 def clone(self, token):
     """`Clone` as a bound or a trait, and its method."""
     before, after = self.before().text, self.after(0).text
-    is_bound = before in (":", "+", "=") and after in ("+", ",", ">", "{", "=", "where", ")", ";")
+    is_bound = before in (":", "+") and after in ("+", ",", ">", "{", "=", "where", ")", ";")
     if is_bound or before == "impl" or after == "for":
         self.at += 1
         return self.write("TryClone")
@@ -225,6 +228,9 @@ def drop_impl(self, body, name):
     if name not in DROPS or DROPS[name].keys().isdisjoint(fields):
         raise Refused(f"{self.tokens[body].line}: a drop of {name}, which no rule knows")
     last = next(i for i in range(body, end) if self.tokens[i].text == ";" and self.tokens[i - 1].text == "self")
+    for i in range(end, last, -1):
+        if self.tokens[i].text == "&" and self.tokens[i + 1].text in {*fields} - {*DROPS[name]}:
+            del self.tokens[i]  # what is lent is a reference already
     lets = "".join(f"\nlet {it} = {HOW[DROPS[name][it]].format(it)};" for it in fields if it in DROPS[name])
     for i in range(end, last, -1):
         if self.tokens[i].text == "&" and self.tokens[i + 1].text in {*fields} - {*DROPS[name]}:
@@ -233,28 +239,18 @@ def drop_impl(self, body, name):
     at = next(i for i in range(body, end) if self.tokens[i].text == "self")
     start = at - 2 if self.tokens[at - 2].text == "mut" else at
     self.tokens[start:at + 1] = made("&mut self", self.tokens[at].line)
-    return named_drop(self, body)
-
-
-def named_drop(self, body):
-    """Keeps the trait's name from the rule of the bound."""
-    for_ = next(i for i in range(body, self.at, -1) if self.tokens[i].text == "for")
-    trait = significant(self.tokens, for_ - 1, -1)
-    self.tokens[trait] = Token("done", "Drop", self.tokens[trait].line)
     return False
 
 
 def moved_fields(self, token):
     """A struct's field that its drop moves out, where it is declared and where the struct is made."""
-    fields = [field for name, field in MOVED if name == token.text]
-    at = self.at
     is_declared = self.before().text == "struct"
-    while is_declared and self.tokens[at].text not in ("{", ";"):
-        at += 1
-    opens = at if is_declared else significant(self.tokens, at + 1)
+    opens = significant(self.tokens, self.at + 1)
+    while is_declared and self.tokens[opens].text not in ("{", ";"):
+        opens += 1
     if self.tokens[opens].text != "{" or self.before().text in ("let", "for", "impl", "->", "::", "<"):
         return False
-    for field in fields:
+    for field in (field for name, field in MOVED if name == token.text):
         end = closing(self.tokens, opens)
         at = next((i for i in range(opens, end) if self.tokens[i].text == field and self.tokens[i - 1].text != "."), None)
         if at is None:
@@ -372,12 +368,7 @@ def path(self, token):
     if self.after(0).text != "::" or self.before().text in ("::", "."):
         return False
     if token.text == "thiserror":
-        while self.tokens[self.at].text != ";":
-            self.at += 1
-        self.at += 1
-        while self.out.pop().text != "use":
-            pass
-        return True
+        return self.drop_use()
     if token.text == "crate":
         self.write(self.crate)
     elif token.text in self.crates:
@@ -404,10 +395,7 @@ def main(self, token):
 def model(self, token):
     """`Model` in a `use`, alone or of several names."""
     if self.before().text == "::" and self.after(0).text == ";":
-        while self.out.pop().text != "use":
-            pass
-        self.at = significant(self.tokens, self.at + 1) + 1
-        return True
+        return self.drop_use()
     self.at = significant(self.tokens, self.at + 1) + 1 if self.after(0).text == "," else self.at + 1
     return True
 

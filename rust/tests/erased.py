@@ -1,7 +1,6 @@
 """Writes the crates' tests and programs as Rust crates into out/, which `cargo` then builds and runs."""
 import os
 import re
-import shutil
 import sys
 
 HERE = os.path.dirname(os.path.realpath(__file__))
@@ -16,7 +15,7 @@ LIBRARIES = ["foyer_session"]
 LEFT_OUT = {
     "foyer_policy_tests": ["json"],  # the types that users see have their own `serde`
     "foyer_memory_tests": ["build"],  # the kit's log and JSON
-    "foyer_session_tests": ["clones", "keys"],  # a derived `Clone` can't fail, and asks for `Clone`
+    "foyer_session_tests": ["clones"],  # a derived `Clone` can't fail, and asks for `Clone`
 }
 
 MANIFEST = """[package]
@@ -44,8 +43,9 @@ def write(name):
         texts[it] = re.sub(rf"(#\[cfg\(test\)\]\n)?mod ({'|'.join(left_out)});\n", "", text)
     files = erase.Target(name, True).files({it: text for it, text in texts.items() if os.path.basename(it)[:-3] not in left_out})
     manifest = MANIFEST.format(name=name) + "".join(f'{it} = {{ path = "../{it}" }}\n' for it in uses(name))
-    shutil.rmtree(f"{HERE}/out/{name}", ignore_errors=True)
-    erase.write(f"{HERE}/out/{name}", {"Cargo.toml": manifest, **{f"src/{it}": text for it, text in files.items()}})
+    erase.write(f"{HERE}/out/{name}/src", files)
+    with open(f"{HERE}/out/{name}/Cargo.toml", "w", encoding="utf-8") as file:
+        file.write(manifest)
 
 
 if __name__ == "__main__":

@@ -56,4 +56,6 @@ macro_rules! vec_in {
     };
 }
 
-pub use {eprint_in as eprint, eprintln_in as eprintln, format_in as format, print_in as print, println_in as println, vec_in as vec};
+pub use {
+    eprint_in as eprint, eprintln_in as eprintln, format_in as format, print_in as print, println_in as println, vec_in as vec,
+};
