@@ -453,8 +453,16 @@ def function(self, token):
     return False
 
 
+def visibility(self, token):
+    """What a module shows to its parent, the facade uses too."""
+    if self.before().text != "(" or self.out[significant(self.out, len(self.out) - 2, -1)].text != "pub":
+        return False
+    self.at += 1
+    return self.write("crate")
+
+
 RULES = {"#": attribute, "impl": implementation, "trait": trait_, "Drop": drop_bound, "Model": model, "fmt": fmt, "main": main, "fn": function,
-         "Clone": clone}
+         "Clone": clone, "super": visibility}
 RULES |= {it: method for it in COLLECTS | {"clone", "expect", "expect_err"}}
 RULES |= {it: macro for it in WITH_HANDLE | OF_SHIM | {"prove", "prove_eq", "prove_ne"}}
 RULES |= {name: moved_fields for name, _ in MOVED}

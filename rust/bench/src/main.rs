@@ -78,7 +78,11 @@ impl<K: luffapricot::Key> Target<K> for luffapricot::Cache<K, K, foyer_common::h
 
     #[inline(always)]
     fn by_read(&self, key: &K) -> bool {
-        self.by_entry(key)
+        if self.read(key, |value| drop(std::hint::black_box(value))).is_some() {
+            return true;
+        }
+        self.put(key.clone(), key.clone());
+        false
     }
 }
 

@@ -22,6 +22,7 @@ use std::hash::{BuildHasher, Hash};
 use std::sync::Arc;
 
 mod bulk;
+mod entryless;
 mod making;
 
 type Inner<K, V, S, P> = RawCache<
@@ -136,14 +137,6 @@ where
     pub fn touch<Q: Hash + Equivalent<K> + ?Sized>(&self, key: &Q) -> bool {
         let found = self.ask(key, |name| self.inner.touch(self.clock.now(), name));
         found.unwrap_or_else(|error| refused(error))
-    }
-
-    /// Returns a clone of the key's value, which counts as a use.
-    pub fn get_cloned<Q: Hash + Equivalent<K> + ?Sized>(&self, key: &Q) -> Option<V>
-    where
-        V: Clone,
-    {
-        self.get(key).map(|entry| entry.value().clone())
     }
 
     /// Returns the hash of a key.

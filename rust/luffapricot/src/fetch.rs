@@ -202,6 +202,10 @@ where
         FO: FnOnce() -> Option<OptionalFetchBuilder<K, V, P>>,
         FR: FnOnce() -> Option<RequiredFetchBuilder<K, V, P>>,
     {
+        if let Some(hit) = self.get_first(key).transpose() {
+            let look = hit.map(|entry| Look::Hit(Some(entry))).map_err(|error| Some(error.into()));
+            return GetOrFetch { look: Resumed::new(look), task: None };
+        }
         let (mut taken, context) = (Taken(None), self.clock.clone());
         // `fr` is called before anything has begun, and `fo` once the fetch is open, which a panic must not keep open.
         let (fo, fr) = (|| caught(fo).flatten().map(Build::new), || fr().map(Build::new));

@@ -1,11 +1,12 @@
 //! Blocking calls that make what is missing.
 
 use super::Cache;
-use crate::entry::CacheEntry;
+use crate::entry::{CacheEntry, InnerEntry};
 use crate::error::{BoxError, Error, Result, fault_of};
 use crate::guard::{Held, resumed};
 use crate::key::{Equivalent, Name};
-use crate::properties::Properties;
+use crate::properties::{Properties, Props};
+use crate::proved::foyer_policy;
 use crate::rules::{Key, Value};
 use crate::types::panicked;
 use std::hash::{BuildHasher, Hash};
@@ -64,25 +65,57 @@ where
         Q: Hash + Equivalent<K> + ?Sized + ToOwned<Owned = K>,
         E: Into<BoxError>,
     {
+        self.get_or_try_insert_with_properties(key, || Ok((make().map_err(Into::into)?, P::default())))
+    }
+
+    /// Returns an entry of the key's record as `get_or_try_insert_with` does. The closure returns the properties too, such
+    /// as the value's own time to live.
+    ///
+    /// # Errors
+    /// Those of `get_or_try_insert_with`.
+    ///
+    /// # Panics
+    /// If the closure panics.
+    pub fn get_or_try_insert_with_properties<Q>(
+        &self,
+        key: &Q,
+        make: impl FnOnce() -> std::result::Result<(V, P), BoxError>,
+    ) -> Result<CacheEntry<K, V, S, P>>
+    where
+        Q: Hash + Equivalent<K> + ?Sized + ToOwned<Owned = K>,
+    {
+        if let Some(entry) = self.get_first(key)? {
+            return Ok(CacheEntry::new(entry));
+        }
         let mut panic = None;
         let make = || {
-            let made = || make().map(Held::new).map_err(|error| fault_of(error.into()));
+            let made = || {
+                let (value, properties) = make().map_err(fault_of)?;
+                let expires = self.clock.expiry(properties.time_to_live());
+                Ok((Held::new(value), Props::new(properties, expires)))
+            };
             catch_unwind(AssertUnwindSafe(made)).unwrap_or_else(|thrown| {
                 let fault = panicked(Some(&thrown));
                 panic = Some(thrown);
                 Err(fault)
             })
         };
-        if let Some(entry) = self.get(key) {
-            return Ok(entry);
-        }
         let entry = resumed(|| {
             let name = Name::new(key.to_owned());
-            self.inner.get_or_insert_with(self.clock.now(), &name, make)
+            self.inner.get_or_insert_with_properties(self.clock.now(), &name, make)
         });
         if let Some(panic) = panic {
             resume_unwind(panic);
         }
         Ok(CacheEntry::new(entry?))
+    }
+
+    // An entry of a hit. A miss isn't counted, since another look-up follows it.
+    #[inline(always)]
+    pub(crate) fn get_first<Q>(&self, key: &Q) -> foyer_policy::Result<Option<InnerEntry<K, V, S, P>>>
+    where
+        Q: Hash + Equivalent<K> + ?Sized,
+    {
+        self.ask(key, |name| self.inner.get_first(self.clock.now(), self.inner.hash(name), name))
     }
 }

@@ -1,5 +1,5 @@
 //! The proved crates, as rust/erase/erase.py writes them.
-#![allow(clippy::all, dead_code, unused_imports, unused_variables)]
+#![allow(clippy::all, dead_code, private_interfaces, unused_imports, unused_variables)]
 
 pub mod foyer_core;
 pub mod foyer_memory;

@@ -72,7 +72,7 @@ impl<
 
     // Ends an open fetch of a key with an error.
     #[inline]
-    pub(super) fn end(&mut self, key: &K, fetch: u64, error: Error) -> Ended<K, V, P, N> {
+    pub(crate) fn end(&mut self, key: &K, fetch: u64, error: Error) -> Ended<K, V, P, N> {
         let hash = self.hash(key);
         let place = self.shard_index(hash);
         self.shards[place].end(self.alloc, hash, key, fetch, error)

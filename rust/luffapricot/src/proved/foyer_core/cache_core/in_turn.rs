@@ -13,7 +13,7 @@ use crate::rattle_std::alloc::Global;
 // Evicts all records that aren't pinned. F7 if memory runs out; the first shards are done, and the evictions made so
 // far stand.
 #[inline]
-pub(super) fn evict_each<E: Eviction, K: Key, V: Value, P: Properties, N, R, I: Finder<K>>(
+pub(crate) fn evict_each<E: Eviction, K: Key, V: Value, P: Properties, N, R, I: Finder<K>>(
     shards: &mut Vec<Shard<E, K, V, P, N, R, I>>,
     now: u64,
     leaves: &mut Vec<Leave<K, V, P>>,
@@ -27,7 +27,7 @@ pub(super) fn evict_each<E: Eviction, K: Key, V: Value, P: Properties, N, R, I: 
 // Evicts to the capacity of each shard. F7 if memory runs out; the first shards are done, and the evictions made so
 // far stand.
 #[inline]
-pub(super) fn evict_each_to_capacity<E: Eviction, K: Key, V: Value, P: Properties, N, R, I: Finder<K>>(
+pub(crate) fn evict_each_to_capacity<E: Eviction, K: Key, V: Value, P: Properties, N, R, I: Finder<K>>(
     shards: &mut Vec<Shard<E, K, V, P, N, R, I>>,
     now: u64,
     leaves: &mut Vec<Leave<K, V, P>>,
@@ -40,7 +40,7 @@ pub(super) fn evict_each_to_capacity<E: Eviction, K: Key, V: Value, P: Propertie
 
 // Gives each shard its part of a capacity, and tells its policy. Nothing leaves. Takes no memory.
 #[inline]
-pub(super) fn share_out<E: Eviction, K: Key, V: Value, P: Properties, N, R, I: Finder<K>>(
+pub(crate) fn share_out<E: Eviction, K: Key, V: Value, P: Properties, N, R, I: Finder<K>>(
     shards: &mut Vec<Shard<E, K, V, P, N, R, I>>,
     capacity: usize,
 ) {
@@ -52,7 +52,7 @@ pub(super) fn share_out<E: Eviction, K: Key, V: Value, P: Properties, N, R, I: F
 
 // Whether each shard's policy takes a configuration as one of its own.
 #[inline]
-pub(super) fn taken_by_each<E: Eviction, K: Key, V: Value, P: Properties, N, R, I: Finder<K>>(
+pub(crate) fn taken_by_each<E: Eviction, K: Key, V: Value, P: Properties, N, R, I: Finder<K>>(
     shards: &Vec<Shard<E, K, V, P, N, R, I>>,
     config: &E::Config,
 ) -> bool {
@@ -66,7 +66,7 @@ pub(super) fn taken_by_each<E: Eviction, K: Key, V: Value, P: Properties, N, R, 
 
 // Gives each shard's policy another configuration, one that it accepts. Nothing leaves. Takes no memory.
 #[inline]
-pub(super) fn configure_each<E: Eviction, K: Key, V: Value, P: Properties, N, R, I: Finder<K>>(
+pub(crate) fn configure_each<E: Eviction, K: Key, V: Value, P: Properties, N, R, I: Finder<K>>(
     shards: &mut Vec<Shard<E, K, V, P, N, R, I>>,
     config: &E::Config,
 ) {
@@ -78,7 +78,7 @@ pub(super) fn configure_each<E: Eviction, K: Key, V: Value, P: Properties, N, R,
 // Removes all records as `Clear`, and returns them. Makes room for all shards first; F7 if memory runs out, and
 // nothing has changed.
 #[inline]
-pub(super) fn clear_each<E: Eviction, K: Key, V: Value, P: Properties, N, R, I: Finder<K>>(
+pub(crate) fn clear_each<E: Eviction, K: Key, V: Value, P: Properties, N, R, I: Finder<K>>(
     shards: &mut Vec<Shard<E, K, V, P, N, R, I>>,
     alloc: Global,
 ) -> Result<Vec<Leave<K, V, P>>> {
@@ -107,7 +107,7 @@ fn reserve_each<E: Eviction, K: Key, V: Value, P: Properties, N, R, I: Finder<K>
 // Evicts the records for which the predicate returns true, and returns them. Calls it once for each, and makes room
 // for all shards first; F7 if memory runs out, and nothing has changed.
 #[inline]
-pub(super) fn evict_each_if<
+pub(crate) fn evict_each_if<
     E: Eviction,
     K: Key,
     V: Value,

@@ -9,17 +9,17 @@ use crate::proved::foyer_policy::{Eviction, Key, Properties, Value};
 
 /// The usage and the number of entries of one shard, or of several together.
 #[derive(Clone, Copy)]
-pub(super) struct Load {
+pub(crate) struct Load {
     // The sum of the weights of the resident records.
-    pub(super) usage: u128,
+    pub(crate) usage: u128,
     // The number of resident records.
-    pub(super) entries: u128,
+    pub(crate) entries: u128,
 }
 
 impl Load {
     // The load of a shard.
     #[inline(always)]
-    pub(super) fn of<E: Eviction, K: Key, V: Value, P: Properties, N, R, I: Finder<K>>(
+    pub(crate) fn of<E: Eviction, K: Key, V: Value, P: Properties, N, R, I: Finder<K>>(
         shard: &Shard<E, K, V, P, N, R, I>,
     ) -> Self {
         Load {
@@ -30,7 +30,7 @@ impl Load {
 
     // The load of these shards together.
     #[inline]
-    pub(super) fn of_all<E: Eviction, K: Key, V: Value, P: Properties, N, R, I: Finder<K>>(
+    pub(crate) fn of_all<E: Eviction, K: Key, V: Value, P: Properties, N, R, I: Finder<K>>(
         shards: &[Shard<E, K, V, P, N, R, I>],
     ) -> Self {
         let mut sum = Load { usage: 0, entries: 0 };
@@ -44,7 +44,7 @@ impl Load {
 
     // Replaces a part of the load by another.
     #[inline(always)]
-    pub(super) fn replace(&mut self, before: Load, after: Load) {
+    pub(crate) fn replace(&mut self, before: Load, after: Load) {
         self.usage = self.usage - before.usage + after.usage;
         self.entries = self.entries - before.entries + after.entries;
     }

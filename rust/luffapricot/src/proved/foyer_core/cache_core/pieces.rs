@@ -79,7 +79,7 @@ impl<
     // The weight that a piece makes a new record with, whose key has this hash. The weighter isn't asked of a piece
     // that its shard knows, nor of one whose key isn't this one.
     #[inline]
-    pub(super) fn weight_under(&self, hash: u64, piece: &Piece<K, V, P>, key: &K) -> usize {
+    pub(crate) fn weight_under(&self, hash: u64, piece: &Piece<K, V, P>, key: &K) -> usize {
         if !(*key == *piece.key()) || self.shards[self.shard_index(hash)].knows(hash, piece) {
             return 0;
         }

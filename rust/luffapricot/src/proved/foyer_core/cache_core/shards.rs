@@ -77,7 +77,7 @@ impl<
 
     // The shard of a hash, by its number.
     #[inline(always)]
-    pub(super) fn shard_index(&self, hash: u64) -> usize {
+    pub(crate) fn shard_index(&self, hash: u64) -> usize {
         shard_of(hash, self.shards.len())
     }
 }

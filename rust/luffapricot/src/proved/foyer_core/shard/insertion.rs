@@ -184,7 +184,7 @@ impl<E: Eviction, K: Key, V: Value, P: Properties, N, R, I: Finder<K>> Shard<E, 
 
     // An entry for each waiter of a key.
     #[inline(always)]
-    pub(super) fn further(&self, hash: u64, key: &K) -> Further {
+    pub(crate) fn further(&self, hash: u64, key: &K) -> Further {
         let count = if self.inflights.is_empty() {
             0
         } else {

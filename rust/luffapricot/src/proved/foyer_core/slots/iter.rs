@@ -15,7 +15,7 @@ pub struct Iter<'a, T> {
 impl<'a, T> Iter<'a, T> {
     // All the slots of these cells.
     #[inline]
-    pub(super) fn new(cells: &'a [Cell<T>]) -> Self {
+    pub(crate) fn new(cells: &'a [Cell<T>]) -> Self {
         Iter { cells, slot: 0 }
     }
 }

@@ -14,7 +14,7 @@ impl<E: Eviction, K: Key, V: Value, P: Properties, I: Finder<K>> Store<E, K, V, 
     // Enters a record, for which there is room, in place of what is held under its id, and removes its key's record.
     // Returns nothing if the index has no room; nothing has changed.
     #[inline(always)]
-    pub(super) fn admit(&mut self, key: K, slot: Slot<K, V, P>) -> Option<(usize, Option<Left<K, V, P>>)> {
+    pub(crate) fn admit(&mut self, key: K, slot: Slot<K, V, P>) -> Option<(usize, Option<Left<K, V, P>>)> {
         let hash = slot.hash();
         let weight = slot.weight();
         let hint = slot.properties().hint().unwrap_or(Hint::Normal);
@@ -46,7 +46,7 @@ impl<E: Eviction, K: Key, V: Value, P: Properties, I: Finder<K>> Store<E, K, V, 
 
     // The slot of an id. An id that wasn't given has none.
     #[inline(always)]
-    pub(super) fn stands(&self, id: u64) -> Option<usize> {
+    pub(crate) fn stands(&self, id: u64) -> Option<usize> {
         if id >= self.next {
             return None;
         }
@@ -56,7 +56,7 @@ impl<E: Eviction, K: Key, V: Value, P: Properties, I: Finder<K>> Store<E, K, V, 
 
 // The next number once this id is used.
 #[inline(always)]
-pub(super) fn above(next: u64, id: u64) -> u64 {
+pub(crate) fn above(next: u64, id: u64) -> u64 {
     if id < next { next } else { id + 1 }
 }
 

@@ -15,7 +15,7 @@ use crate::proved::foyer_policy::{Eviction, Hint, Key, Place, Properties, Value}
 impl<E: Eviction, K: Key, V: Value, P: Properties, I: Finder<K>> Store<E, K, V, P, I> {
     // Reads the data of the record that may leave next, and the slot and the node of the one behind it.
     #[inline(always)]
-    pub(super) fn read_ahead(&self) {
+    pub(crate) fn read_ahead(&self) {
         let (first, second) = self.eviction.ahead();
         let is_slot_read = match second {
             Some(place) => self.slot_agrees(place),
@@ -31,7 +31,7 @@ impl<E: Eviction, K: Key, V: Value, P: Properties, I: Finder<K>> Store<E, K, V, 
     // Reads all that changes when the record at a place in the policy leaves: its data, its neighbors in the policy,
     // and what leads to it by its id and by its key.
     #[inline(always)]
-    pub(super) fn read_all_at(&self, place: Place) {
+    pub(crate) fn read_all_at(&self, place: Place) {
         let item = self.eviction.item(place);
         let slot = place.number();
         let Some(found) = self.records.get(slot) else {

@@ -47,7 +47,7 @@ impl<E: Eviction, K: Key, V: Value, P: Properties, I: Finder<K>> Store<E, K, V, 
 
 // Removes the record in a slot, to which its key leads, from the index and the slot, in the core of this number.
 #[inline(always)]
-pub(super) fn leave_slot<K: Key, V, P, I: Finder<K>>(
+pub(crate) fn leave_slot<K: Key, V, P, I: Finder<K>>(
     index: &mut I,
     records: &mut Records<K, V, P>,
     slot: usize,

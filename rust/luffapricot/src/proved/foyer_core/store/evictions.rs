@@ -11,7 +11,7 @@ use crate::proved::foyer_policy::{Error, Event, Eviction, Key, Place, Properties
 impl<E: Eviction, K: Key, V: Value, P: Properties, I: Finder<K>> Store<E, K, V, P, I> {
     // Evicts one record: the first that is due at `now`, or else the policy's victim.
     #[inline(always)]
-    pub(super) fn evict_one(&mut self, now: u64) -> Result<Option<Left<K, V, P>>> {
+    pub(crate) fn evict_one(&mut self, now: u64) -> Result<Option<Left<K, V, P>>> {
         if let Some(place) = self.eviction.expired(now) {
             self.read_all_at(place);
             return Ok(Some(self.leave_due(place)));

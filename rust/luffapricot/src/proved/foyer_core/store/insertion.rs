@@ -95,7 +95,7 @@ impl<E: Eviction, K: Key, V: Value, P: Properties, I: Finder<K>> Store<E, K, V, 
 
     // Inserts a record that only F7 can refuse, and makes handles of it. Appends what leaves.
     #[inline(always)]
-    pub(super) fn emplace_slot(
+    pub(crate) fn emplace_slot(
         &mut self,
         alloc: Global,
         now: u64,

@@ -15,7 +15,7 @@ impl<E: Eviction, K: Key, V: Value, P: Properties, I: Finder<K>> Store<E, K, V, 
     // It has a new id, or comes back under its own.
     #[cold]
     #[inline(never)]
-    pub(super) fn insert_phantom(
+    pub(crate) fn insert_phantom(
         &mut self,
         slot: Slot<K, V, P>,
         leaves: &mut Vec<Leave<K, V, P>>,

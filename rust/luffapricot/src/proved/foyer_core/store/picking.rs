@@ -50,7 +50,7 @@ impl<E: Eviction, K: Key, V: Value, P: Properties, I: Finder<K>> Store<E, K, V, 
 
     // Evicts the record of an id, which may be in the hinted slot.
     #[inline(always)]
-    pub(super) fn take_out(&mut self, id: u64, hint: usize) -> Left<K, V, P> {
+    pub(crate) fn take_out(&mut self, id: u64, hint: usize) -> Left<K, V, P> {
         let Some(slot) = self.records.find(id, hint) else {
             crate::rattle_std::macros::unreachable!();
         };

@@ -12,7 +12,7 @@ use crate::proved::foyer_policy::{Error, Eviction, Key, Place, Properties, Reaso
 impl<E: Eviction, K: Key, V: Value, P: Properties, I: Finder<K>> Store<E, K, V, P, I> {
     // Why a new record can't be inserted, with so many handles beside the first, whatever memory there is.
     #[inline(always)]
-    pub(super) fn share_refusal(&self, kept: &Share<K, V, P>, further: usize) -> Option<Reason> {
+    pub(crate) fn share_refusal(&self, kept: &Share<K, V, P>, further: usize) -> Option<Reason> {
         self.new_refusal(kept.hash(), kept.key(), kept.properties(), kept.weight(), further)
     }
 
@@ -51,7 +51,7 @@ impl<E: Eviction, K: Key, V: Value, P: Properties, I: Finder<K>> Store<E, K, V, 
     // Why the record of a slot can't be inserted, with one handle more than these and so many further ones, whatever
     // memory there is.
     #[inline]
-    pub(super) fn slot_refusal(&self, slot: &Slot<K, V, P>, held: usize, further: usize) -> Option<Reason> {
+    pub(crate) fn slot_refusal(&self, slot: &Slot<K, V, P>, held: usize, further: usize) -> Option<Reason> {
         if slot.properties().phantom().unwrap_or(false) {
             self.hold_refusal(slot.id(), held, further)
         } else {
@@ -94,7 +94,7 @@ impl<E: Eviction, K: Key, V: Value, P: Properties, I: Finder<K>> Store<E, K, V, 
     // Whether one handle more than these, and so many further ones, pass the limit. Their sum may pass a `usize`,
     // which the limit doesn't.
     #[inline(always)]
-    pub(super) fn passes_limit(&self, held: usize, further: usize) -> bool {
+    pub(crate) fn passes_limit(&self, held: usize, further: usize) -> bool {
         let limit = self.limits.handles;
         match held.checked_add(further) {
             Some(others) => limit <= others,

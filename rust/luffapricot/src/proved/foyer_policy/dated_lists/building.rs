@@ -56,7 +56,7 @@ fn push_dates<T: HasItem, const N: usize>(dates: &mut Dates, lists: &mut Lists<T
 /// F7 if memory runs out.
 #[cold]
 #[inline(never)]
-pub(super) fn built<T: HasItem, const N: usize>(
+pub(crate) fn built<T: HasItem, const N: usize>(
     alloc: Global,
     lists: &mut Lists<T, N>,
     searched: u8,

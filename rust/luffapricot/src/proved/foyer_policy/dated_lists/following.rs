@@ -27,7 +27,7 @@ fn push_date<T: HasItem, const N: usize>(
 
 /// Follows a value that is appended to a list.
 #[inline(always)]
-pub(super) fn follow_push<T: HasItem, const N: usize>(
+pub(crate) fn follow_push<T: HasItem, const N: usize>(
     dates: &mut Tracking,
     lists: &mut Lists<T, N>,
     list: usize,
@@ -66,7 +66,7 @@ fn remove_date<T: HasItem, const N: usize>(dates: &mut Tracking, lists: &Lists<T
 
 /// Follows a value that is removed.
 #[inline(always)]
-pub(super) fn follow_remove<T: HasItem, const N: usize>(
+pub(crate) fn follow_remove<T: HasItem, const N: usize>(
     dates: &mut Tracking,
     lists: &Lists<T, N>,
     place: Place,
@@ -88,7 +88,7 @@ fn pop_date<T: HasItem, const N: usize>(dates: &mut Tracking, lists: &Lists<T, N
 
 /// Follows the first value of a list, if there is one, which is removed.
 #[inline(always)]
-pub(super) fn follow_pop<T: HasItem, const N: usize>(dates: &mut Tracking, lists: &Lists<T, N>, list: usize) {
+pub(crate) fn follow_pop<T: HasItem, const N: usize>(dates: &mut Tracking, lists: &Lists<T, N>, list: usize) {
     // There are `N` lists.
     let _ = lists.count();
     match dates {
@@ -116,7 +116,7 @@ fn move_date<T: HasItem, const N: usize>(
 
 /// Follows a value that moves to the end of a list.
 #[inline(always)]
-pub(super) fn follow_move<T: HasItem, const N: usize>(
+pub(crate) fn follow_move<T: HasItem, const N: usize>(
     dates: &mut Tracking,
     lists: &mut Lists<T, N>,
     place: Place,
@@ -177,7 +177,7 @@ fn reserve_dates<T: HasItem, const N: usize>(
 /// # Errors
 /// F7 if memory runs out.
 #[inline(always)]
-pub(super) fn follow_reserve<T: HasItem, const N: usize>(
+pub(crate) fn follow_reserve<T: HasItem, const N: usize>(
     dates: &mut Tracking,
     lists: &mut Lists<T, N>,
     searched: u8,

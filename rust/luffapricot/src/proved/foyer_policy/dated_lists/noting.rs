@@ -16,6 +16,6 @@ pub(crate) fn note_slot<T: HasItem, const N: usize>(lists: &mut Lists<T, N>, pla
 
 /// Notes the slot of a value's date beside it. The place must have a value. No contract sees it.
 #[inline(always)]
-pub(super) fn note_slot_at<T: HasItem, const N: usize>(lists: &mut Lists<T, N>, place: Place, slot: usize) {
+pub(crate) fn note_slot_at<T: HasItem, const N: usize>(lists: &mut Lists<T, N>, place: Place, slot: usize) {
     lists.get_mut(place).set_slot(slot);
 }

@@ -8,7 +8,7 @@ use crate::proved::foyer_policy::lists::{Lists, Place};
 use crate::proved::foyer_policy::queued::HasItem;
 
 /// What is known of when items expire.
-pub(super) enum Tracking {
+pub(crate) enum Tracking {
     /// No item expires.
     Plain,
     /// Some items may expire; a search walks along its list.
@@ -21,7 +21,7 @@ impl Tracking {
     /// Enters the date of an item that expires and is appended to a list. Returns what is to be noted beside the
     /// item. Takes no memory.
     #[inline(always)]
-    pub(super) fn push<T: HasItem, const N: usize>(
+    pub(crate) fn push<T: HasItem, const N: usize>(
         &mut self,
         lists: &mut Lists<T, N>,
         list: usize,
@@ -43,7 +43,7 @@ impl Tracking {
 
     /// Removes the date of an item that expires and leaves a list. Takes no memory.
     #[inline(always)]
-    pub(super) fn remove(&mut self, list: usize, place: Place, gone: Gone) {
+    pub(crate) fn remove(&mut self, list: usize, place: Place, gone: Gone) {
         if let Tracking::Tracked(dates) = self {
             dates.remove(list, place, gone);
         }

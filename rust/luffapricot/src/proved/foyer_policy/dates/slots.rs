@@ -22,7 +22,7 @@ const BLOCK: usize = 32;
 
 /// Places of a list with their dates, in slots, in the order in which they came. A date that is removed leaves its
 /// slot empty until the empty slots are dropped.
-pub(super) struct Slots {
+pub(crate) struct Slots {
     row: Row,
     // The largest number of slots.
     limit: usize,
@@ -103,7 +103,7 @@ impl Slots {
     /// # Errors
     /// F7 if memory runs out.
     #[inline]
-    pub(super) fn new(alloc: Global, limit: usize) -> Result<Self> {
+    pub(crate) fn new(alloc: Global, limit: usize) -> Result<Self> {
         let limit = limit.min(MOST);
         let tree = MinTree::new(alloc, limit / BLOCK + 1)?;
         let row = Row::with_capacity(alloc, limit)?;
@@ -112,7 +112,7 @@ impl Slots {
 
     /// Returns how many slots there may be.
     #[inline(always)]
-    pub(super) fn limit(&self) -> usize {
+    pub(crate) fn limit(&self) -> usize {
         self.limit
     }
 
@@ -121,7 +121,7 @@ impl Slots {
     /// # Errors
     /// F7 if memory runs out; nothing else has changed.
     #[inline]
-    pub(super) fn grow<T: HasItem, const N: usize>(
+    pub(crate) fn grow<T: HasItem, const N: usize>(
         &mut self,
         alloc: Global,
         lists: &mut Lists<T, N>,
@@ -141,7 +141,7 @@ impl Slots {
 
     /// Drops the empty slots. Takes no memory.
     #[inline]
-    pub(super) fn close_up<T: HasItem, const N: usize>(&mut self, lists: &mut Lists<T, N>) {
+    pub(crate) fn close_up<T: HasItem, const N: usize>(&mut self, lists: &mut Lists<T, N>) {
         let blocks = self.row.len() / BLOCK + 1;
         let taken = gather(&mut self.row, lists);
         self.row.truncate(taken);
@@ -151,7 +151,7 @@ impl Slots {
     /// Appends a place that has no slot, with its date, and returns the number of its slot, or `None` if there is no
     /// room. Takes no memory.
     #[inline(always)]
-    pub(super) fn push(&mut self, place: Place, date: u64) -> Option<usize> {
+    pub(crate) fn push(&mut self, place: Place, date: u64) -> Option<usize> {
         let index = self.row.len();
         if index >= self.limit || place.number() >= PLACES as usize {
             return None;
@@ -163,7 +163,7 @@ impl Slots {
 
     /// Empties the slot of a place, which must have one. Takes no memory.
     #[inline(always)]
-    pub(super) fn take_out(&mut self, place: Place, gone: Gone) {
+    pub(crate) fn take_out(&mut self, place: Place, gone: Gone) {
         let index = find(&self.row, place, gone.slot);
         self.row.empty(index);
         raise(&mut self.tree, &self.row, index / BLOCK, gone);
@@ -171,13 +171,13 @@ impl Slots {
 
     /// Returns whether no date is due, as far as that is known without looking at them.
     #[inline(always)]
-    pub(super) fn are_behind(&self, now: u64) -> bool {
+    pub(crate) fn are_behind(&self, now: u64) -> bool {
         self.tree.least() > now
     }
 
     /// Returns the first place whose date is due at `now`.
     #[inline]
-    pub(super) fn first(&self, now: u64) -> Option<Place> {
+    pub(crate) fn first(&self, now: u64) -> Option<Place> {
         let block = self.tree.first(now)?;
         let start = block.saturating_mul(BLOCK);
         let end = start.saturating_add(BLOCK);

@@ -8,17 +8,17 @@ use crate::proved::foyer_policy::kept::Kept;
 use crate::proved::foyer_policy::sketch::Sketch;
 
 /// The list of new records.
-pub(super) const WINDOW: usize = 0;
+pub(crate) const WINDOW: usize = 0;
 
 /// The list of records that weren't used since they left another list.
-pub(super) const PROBATION: usize = 1;
+pub(crate) const PROBATION: usize = 1;
 
 /// The list of records that were used in probation.
-pub(super) const PROTECTED: usize = 2;
+pub(crate) const PROTECTED: usize = 2;
 
 /// Returns a weight if it counts, and otherwise 0.
 #[inline]
-pub(super) fn weight_if(counts: bool, weight: usize) -> usize {
+pub(crate) fn weight_if(counts: bool, weight: usize) -> usize {
     if counts { weight } else { 0 }
 }
 
@@ -39,7 +39,7 @@ fn demote(lists: &mut DatedLists<Kept, 3>, from: usize) -> usize {
 /// Moves the first items of a list, which weighs `weight`, to the end of probation until the rest is within a limit,
 /// and returns the weight of the rest. The list isn't probation.
 #[inline]
-pub(super) fn settle(lists: &mut DatedLists<Kept, 3>, from: usize, weight: usize, limit: usize) -> usize {
+pub(crate) fn settle(lists: &mut DatedLists<Kept, 3>, from: usize, weight: usize, limit: usize) -> usize {
     let mut left = weight;
     while left > limit {
         left -= demote(lists, from);
@@ -56,7 +56,7 @@ fn first_hash(lists: &DatedLists<Kept, 3>, list: usize) -> Option<u64> {
 
 /// Returns the list whose first item leaves next, if there is one.
 #[inline]
-pub(super) fn next_list(lists: &DatedLists<Kept, 3>, sketch: &Sketch) -> usize {
+pub(crate) fn next_list(lists: &DatedLists<Kept, 3>, sketch: &Sketch) -> usize {
     match (first_hash(lists, WINDOW), first_hash(lists, PROBATION)) {
         (Some(window), Some(probation)) => {
             if sketch.estimate(window) < sketch.estimate(probation) {
@@ -73,6 +73,6 @@ pub(super) fn next_list(lists: &DatedLists<Kept, 3>, sketch: &Sketch) -> usize {
 
 /// Removes all items of a list.
 #[inline]
-pub(super) fn drain(lists: &mut DatedLists<Kept, 3>, list: usize) {
+pub(crate) fn drain(lists: &mut DatedLists<Kept, 3>, list: usize) {
     while lists.pop_front(list).is_some() {}
 }

@@ -29,7 +29,7 @@ fn set_after<T>(nodes: &mut Nodes<Links, T>, base: Base<Links, T>, at: Link, to:
 
 /// Adds a node without a value in front of the free ones, of which `free` is the first.
 #[inline(always)]
-pub(super) fn put_free<T, const N: usize>(
+pub(crate) fn put_free<T, const N: usize>(
     nodes: &mut Nodes<Links, T>,
     base: Base<Links, T>,
     place: usize,
@@ -46,7 +46,7 @@ pub(super) fn put_free<T, const N: usize>(
 
 /// Takes a node from the free ones, of which `free` is the first, and returns the first that is left.
 #[inline(always)]
-pub(super) fn take_free<T>(
+pub(crate) fn take_free<T>(
     nodes: &mut Nodes<Links, T>,
     base: Base<Links, T>,
     place: usize,

@@ -46,7 +46,7 @@ fn set_before<T, const N: usize>(
 
 // Appends a value to a list, in a node that has none.
 #[inline(always)]
-pub(super) fn link_back<T, const N: usize>(
+pub(crate) fn link_back<T, const N: usize>(
     nodes: &mut Arena<T, N>,
     heads: &mut [Link],
     tails: &mut [Link],
@@ -67,7 +67,7 @@ pub(super) fn link_back<T, const N: usize>(
 
 // Unlinks a node from its list. It keeps its value, and is in no list.
 #[inline(always)]
-pub(super) fn unlink<T, const N: usize>(
+pub(crate) fn unlink<T, const N: usize>(
     nodes: &mut Arena<T, N>,
     heads: &mut [Link],
     tails: &mut [Link],
@@ -80,7 +80,7 @@ pub(super) fn unlink<T, const N: usize>(
 
 // Appends a node that is in no list to one.
 #[inline(always)]
-pub(super) fn relink<T, const N: usize>(
+pub(crate) fn relink<T, const N: usize>(
     nodes: &mut Arena<T, N>,
     heads: &mut [Link],
     tails: &mut [Link],
@@ -100,7 +100,7 @@ pub(super) fn relink<T, const N: usize>(
 
 // Removes the value of a node from its list, and frees the node.
 #[inline(always)]
-pub(super) fn take_out<T, const N: usize>(
+pub(crate) fn take_out<T, const N: usize>(
     nodes: &mut Arena<T, N>,
     heads: &mut [Link],
     tails: &mut [Link],
@@ -112,7 +112,7 @@ pub(super) fn take_out<T, const N: usize>(
 
 // Reads what moving a node will write: the nodes at both sides. Returns true.
 #[inline(always)]
-pub(super) fn has_neighbors<T, const N: usize>(
+pub(crate) fn has_neighbors<T, const N: usize>(
     nodes: &Arena<T, N>,
     heads: &[Link],
     tails: &[Link],

@@ -6,7 +6,7 @@ use crate::rattle_std::prelude::*;
 /// Names a value of a [`Lists`](super::Lists) until it is removed.
 #[derive(Clone, Copy, Debug, PartialEq, Eq, Hash)]
 pub struct Place {
-    pub(super) node: usize,
+    pub(crate) node: usize,
 }
 
 impl Place {

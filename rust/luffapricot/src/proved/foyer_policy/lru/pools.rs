@@ -9,15 +9,15 @@ use crate::proved::foyer_policy::lists::Place;
 use crate::proved::foyer_policy::queued::Queued;
 
 /// The list of low priority, which leaves first.
-pub(super) const LOW: usize = 0;
+pub(crate) const LOW: usize = 0;
 
 /// The list of the pool of high priority.
-pub(super) const HIGH: usize = 1;
+pub(crate) const HIGH: usize = 1;
 
 /// The list of pinned items.
-pub(super) const PIN: usize = 2;
+pub(crate) const PIN: usize = 2;
 
-pub(super) type Node = Queued<LruState>;
+pub(crate) type Node = Queued<LruState>;
 
 /// Moves the first node of the pool to the end of the low list, clears its high bit, and returns its weight. The pool
 /// must not be empty.
@@ -39,7 +39,7 @@ fn lower(lists: &mut DatedLists<Node, 3>) -> usize {
 
 /// Lowers nodes of the pool, which weighs `weight`, until it is within a limit, and returns its weight.
 #[inline(always)]
-pub(super) fn settle(lists: &mut DatedLists<Node, 3>, weight: usize, limit: usize) -> usize {
+pub(crate) fn settle(lists: &mut DatedLists<Node, 3>, weight: usize, limit: usize) -> usize {
     let mut left = weight;
     while left > limit {
         left -= lower(lists);
@@ -49,13 +49,13 @@ pub(super) fn settle(lists: &mut DatedLists<Node, 3>, weight: usize, limit: usiz
 
 /// Sets a node's state and moves it to the end of a list. The place must have a node.
 #[inline(always)]
-pub(super) fn relist(lists: &mut DatedLists<Node, 3>, place: Place, state: LruState, list: usize) {
+pub(crate) fn relist(lists: &mut DatedLists<Node, 3>, place: Place, state: LruState, list: usize) {
     lists.set_state(place, state);
     lists.move_back(place, list);
 }
 
 /// Removes all nodes of a list.
 #[inline]
-pub(super) fn drain(lists: &mut DatedLists<Node, 3>, list: usize) {
+pub(crate) fn drain(lists: &mut DatedLists<Node, 3>, list: usize) {
     while lists.pop_front(list).is_some() {}
 }

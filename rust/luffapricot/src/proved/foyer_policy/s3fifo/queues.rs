@@ -10,34 +10,34 @@ use crate::proved::foyer_policy::queued::Queued;
 use crate::proved::foyer_policy::types::Item;
 
 // The numbers of the two lists.
-pub(super) const SMALL: usize = 0;
+pub(crate) const SMALL: usize = 0;
 
-pub(super) const MAIN: usize = 1;
+pub(crate) const MAIN: usize = 1;
 
 // The largest frequency.
-pub(super) const MOST: u8 = 3;
+pub(crate) const MOST: u8 = 3;
 
 /// What an [`S3Fifo`](super::S3Fifo) keeps beside an item: its frequency, from 0 to 3, and its queue.
 #[derive(Clone, Copy, Debug, Default)]
 pub struct S3FifoState {
-    pub(super) frequency: u8,
-    pub(super) is_main: bool,
+    pub(crate) frequency: u8,
+    pub(crate) is_main: bool,
 }
 
-pub(super) type Node = Queued<S3FifoState>;
+pub(crate) type Node = Queued<S3FifoState>;
 
 // A victim, its place, and how many frequencies of the main queue were read.
 #[derive(Clone, Copy)]
-pub(super) struct Victim {
-    pub(super) item: Item,
-    pub(super) at: Place,
-    pub(super) looks: u128,
+pub(crate) struct Victim {
+    pub(crate) item: Item,
+    pub(crate) at: Place,
+    pub(crate) looks: u128,
 }
 
 // Removes the first record below a threshold from the small queue. Those before it, or all if there is none, move to
 // the end of the main queue. `weight` is the small queue's.
 #[inline]
-pub(super) fn take_small(
+pub(crate) fn take_small(
     queues: &mut DatedLists<Node, 2>,
     weight: &mut usize,
     threshold: u8,
@@ -82,7 +82,7 @@ fn lower(queues: &mut DatedLists<Node, 2>, place: Place, looks: &mut u128) -> bo
 // Removes the victim of the main queue: each record at the front goes to the back, its frequency lowered by 1, until
 // the first of frequency 0 leaves.
 #[inline]
-pub(super) fn take_main(queues: &mut DatedLists<Node, 2>) -> Option<Victim> {
+pub(crate) fn take_main(queues: &mut DatedLists<Node, 2>) -> Option<Victim> {
     let mut looks: u128 = 0;
     while let Some(front) = queues.front(MAIN) {
         if !lower(queues, front, &mut looks) {
@@ -117,7 +117,7 @@ fn pop_main(queues: &mut DatedLists<Node, 2>, weight: &mut usize) -> Option<Vict
 // Removes the victim, and enters it in the ghost queue if it leaves the small queue. Needs room there. `weight` is
 // the small queue's.
 #[inline]
-pub(super) fn pop_victim(
+pub(crate) fn pop_victim(
     queues: &mut DatedLists<Node, 2>,
     weight: &mut usize,
     ghost_queue: &mut GhostQueue,
@@ -141,7 +141,7 @@ const FEW: usize = 8;
 
 // The first of a queue's next few records whose frequency is below this, or the last of them.
 #[inline(always)]
-pub(super) fn next_victim(queues: &DatedLists<Node, 2>, list: usize, threshold: u8) -> Option<Place> {
+pub(crate) fn next_victim(queues: &DatedLists<Node, 2>, list: usize, threshold: u8) -> Option<Place> {
     let mut at = queues.front(list)?;
     for _read in 0..FEW {
         if queues.get(at).state().frequency < threshold {
@@ -157,7 +157,7 @@ pub(super) fn next_victim(queues: &DatedLists<Node, 2>, list: usize, threshold: 
 
 // The number of records in a queue.
 #[inline]
-pub(super) fn count(queues: &DatedLists<Node, 2>, list: usize) -> usize {
+pub(crate) fn count(queues: &DatedLists<Node, 2>, list: usize) -> usize {
     let mut count = 0;
     let mut next = queues.front(list);
     while let Some(place) = next {

@@ -32,7 +32,7 @@ fn refresh(tree: &mut MinTree, row: &Row, block: usize) {
 
 // Sets the first `count` leaves, which must be those of all slots.
 #[inline]
-pub(super) fn refresh_all(tree: &mut MinTree, row: &Row, count: usize) {
+pub(crate) fn refresh_all(tree: &mut MinTree, row: &Row, count: usize) {
     for block in 0..count {
         refresh(tree, row, block);
     }
@@ -42,7 +42,7 @@ pub(super) fn refresh_all(tree: &mut MinTree, row: &Row, count: usize) {
 // its list, the next to be removed is often beside it: then the block is marked, and its leaf is set when another
 // block is marked.
 #[inline(always)]
-pub(super) fn raise(tree: &mut MinTree, row: &Row, block: usize, gone: Gone) {
+pub(crate) fn raise(tree: &mut MinTree, row: &Row, block: usize, gone: Gone) {
     if gone.date > tree.get(block) {
         return;
     }
@@ -59,7 +59,7 @@ pub(super) fn raise(tree: &mut MinTree, row: &Row, block: usize, gone: Gone) {
 
 // Lowers the leaf of a block to a new date.
 #[inline(always)]
-pub(super) fn lower(tree: &mut MinTree, block: usize, date: u64) {
+pub(crate) fn lower(tree: &mut MinTree, block: usize, date: u64) {
     if date < tree.get(block) {
         tree.set(block, date);
     }
