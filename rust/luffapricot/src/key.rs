@@ -36,7 +36,14 @@ thread_local! {
 
 /// A stored key, or the first field of a question.
 #[repr(transparent)]
-pub(crate) struct Name<K>(MaybeUninit<K>);
+pub(crate) struct Name<K>(Room<K>);
+
+// Room for a key, of one byte at least: two names never have one address.
+#[repr(C)]
+union Room<K> {
+    key: ManuallyDrop<K>,
+    none: u8,
+}
 
 // A look-up by a borrowed key. Its name has no key. What depends on `Q` stands last.
 #[repr(C)]
@@ -69,7 +76,7 @@ struct Head<K> {
 impl<K> Name<K> {
     #[inline(always)]
     pub(crate) fn new(key: K) -> Self {
-        Name(MaybeUninit::new(key))
+        Name(Room { key: ManuallyDrop::new(key) })
     }
 
     /// Returns the key of a stored name.
@@ -77,7 +84,7 @@ impl<K> Name<K> {
     pub(crate) fn get(&self) -> &K {
         // SAFETY: only a question's name has no key. It is lent to look-ups alone, which compare and hash it, and clone or
         // keep none; `==` and `hash_one` know it by its address.
-        unsafe { self.0.assume_init_ref() }
+        unsafe { &self.0.key }
     }
 
     // Whether the question at this address names the stored key.
@@ -94,7 +101,7 @@ impl<K> Drop for Name<K> {
     fn drop(&mut self) {
         if std::mem::needs_drop::<K>() {
             // SAFETY: a question's name is never dropped, and nothing uses a stored one after its drop.
-            caught(|| unsafe { self.0.assume_init_drop() });
+            caught(|| unsafe { ManuallyDrop::drop(&mut self.0.key) });
         }
     }
 }
@@ -115,7 +122,7 @@ where
         }
     }
     let head = Head { hash: hash_builder.hash_one(key), is: is::<K, Q> };
-    let question = Question { name: ManuallyDrop::new(Name(MaybeUninit::uninit())), head, key };
+    let question = Question { name: ManuallyDrop::new(Name(Room { none: 0 })), head, key };
     let _before = Before(ASKED.replace(ptr::from_ref(&question).cast()));
     look(&question.name)
 }

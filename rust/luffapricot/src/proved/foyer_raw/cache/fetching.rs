@@ -18,13 +18,13 @@ use crate::rattle_std::sync::Wait;
 
 /// What a look-up needs that may have to wait: shares of the cache for an entry or a wait and for a task, the key's
 /// hash and a clone of it, and both ends of a channel.
-pub(super) struct Asking<C, K, V, P> {
-    pub(super) shares: C,
-    pub(super) task: C,
-    pub(super) hash: u64,
-    pub(super) own: K,
-    pub(super) notifier: Notifier<Answer<K, V, P>>,
-    pub(super) waiter: Waiter<Answer<K, V, P>>,
+pub(crate) struct Asking<C, K, V, P> {
+    pub(crate) shares: C,
+    pub(crate) task: C,
+    pub(crate) hash: u64,
+    pub(crate) own: K,
+    pub(crate) notifier: Notifier<Answer<K, V, P>>,
+    pub(crate) waiter: Waiter<Answer<K, V, P>>,
 }
 
 impl<H, E, K, V, S, P, W, A, L, Q, T, I> RawCache<H, E, K, V, S, P, W, A, L, Q, T, I>
@@ -79,7 +79,7 @@ where
 
     // Makes what a look-up of a key needs. Fails with F7 alone.
     #[inline]
-    pub(super) fn asking(
+    pub(crate) fn asking(
         &self,
         hash: u64,
         key: &K,

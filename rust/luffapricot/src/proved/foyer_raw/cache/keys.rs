@@ -52,7 +52,7 @@ where
 
     // An entry as `get` returns it. A miss is not counted, since another look-up follows it.
     #[inline]
-    pub(super) fn get_first(
+    pub(crate) fn get_first(
         &self,
         now: u64,
         hash: u64,

@@ -30,7 +30,7 @@ where
 {
     // Returns whether the fetch is open.
     #[inline]
-    pub(super) fn is_open(&self) -> bool {
+    pub(crate) fn is_open(&self) -> bool {
         match &self.key {
             Some(key) => self.is_open_for(key),
             None => false,
@@ -47,7 +47,7 @@ where
     // Ends the fetch with what was fetched, inserted at the first caller's `now`, and gives all that wait their result. If
     // the fetch isn't open nothing happens, and neither the weighter nor the filter is asked.
     #[inline]
-    pub(super) fn complete(&self, key: Option<K>, target: FetchTarget<K, V, P>, source: Source) {
+    pub(crate) fn complete(&self, key: Option<K>, target: FetchTarget<K, V, P>, source: Source) {
         let Some(key) = key else {
             return;
         };
@@ -72,7 +72,7 @@ where
 
     // Ends the fetch with a fault.
     #[inline]
-    pub(super) fn fail(&self, fault: Fault) {
+    pub(crate) fn fail(&self, fault: Fault) {
         if let Some(key) = &self.key {
             self.shares.fail(self.fetch, key, fault);
         }
@@ -80,7 +80,7 @@ where
 
     // Returns a builder that a waiting caller brought, or else the waiting callers; none if the fetch isn't open.
     #[inline]
-    pub(super) fn later(&self) -> Option<Later<K, V, P, T::Required>> {
+    pub(crate) fn later(&self) -> Option<Later<K, V, P, T::Required>> {
         let Fetch { id, hash, .. } = self.fetch;
         match &self.key {
             Some(key) => self.shares.shared.shards.fetch_or_take(hash, key, id),
@@ -90,7 +90,7 @@ where
 
     // Gives all that wait the fault, or none.
     #[inline]
-    pub(super) fn tell_nothing(&self, waiters: Waiters<K, V, P>, fault: Option<Fault>) {
+    pub(crate) fn tell_nothing(&self, waiters: Waiters<K, V, P>, fault: Option<Fault>) {
         match fault {
             Some(fault) => refuse(waiters, self.shares.refusal(fault)),
             None => tell_none(waiters),
