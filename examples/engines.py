@@ -61,7 +61,7 @@ def lint(files, *flags):
     run("clang-format", "--dry-run", "-Werror", f"--style=file:{BINDINGS}/.clang-format", *files)
     sources = [it for it in files if not it.endswith(".h")]
     run("clang-tidy", "--quiet", f"--checks={CHECKS}", "--warnings-as-errors=*", *sources, "--", *flags)
-    how = ["--enable=warning,style,performance,portability", "--error-exitcode=1", "-q", "--inline-suppr"]
+    how = ["--enable=warning,performance,portability", "--error-exitcode=1", "-q", "--inline-suppr"]
     run("cppcheck", *how, "--suppress=missingIncludeSystem", *sources)
 
 
