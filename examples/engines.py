@@ -60,7 +60,7 @@ def lint(files, *flags):
     """clang-format, clang-tidy and cppcheck have nothing to say."""
     run("clang-format", "--dry-run", "-Werror", f"--style=file:{BINDINGS}/.clang-format", *files)
     sources = [it for it in files if not it.endswith(".h")]
-    run("clang-tidy", "--quiet", f"--checks={CHECKS}", "--warnings-as-errors=*", *sources, "--", *flags)
+    run("clang-tidy", "--quiet", f"--checks={CHECKS}", "--warnings-as-errors=*", f"--header-filter={HERE}/.*", *sources, "--", *flags)
     how = ["--enable=warning,performance,portability", "--error-exitcode=1", "-q", "--inline-suppr"]
     run("cppcheck", *how, "--suppress=missingIncludeSystem", *sources)
 
