@@ -25,7 +25,8 @@
  *
  * Versions. A library with the same SONAME, libluffapricot.so.0, runs the programs that were compiled with an older
  * header. It may have more calls, statuses, policies and flags, and more fields at the end of luffa_config,
- * luffa_policy (in `reserved`), luffa_terms (each with a flag of its own), luffa_made and luffa_stats.
+ * luffa_policy (in `reserved`), luffa_terms (each with a flag of its own), luffa_made and luffa_stats. luffa_ratio and
+ * luffa_entry stay as they are.
  */
 #ifndef LUFFAPRICOT_H
 #define LUFFAPRICOT_H
