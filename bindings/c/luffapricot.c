@@ -53,7 +53,7 @@ struct told {
     size_t count;
 };
 
-const char *luffa_version(void) { return "0.1.0 (" LUFFA_PROOF ")"; }
+const char *luffa_version(void) { return LUFFA_VERSION " (" LUFFA_PROOF ")"; }
 
 const char *luffa_strerror(luffa_status status) {
     static const char *const TEXTS[] = {
@@ -72,25 +72,57 @@ const char *luffa_strerror(luffa_status status) {
         [LUFFA_WRONG_POLICY] = "the configuration is of another policy",
         [LUFFA_MISSING] = "the cache has no such record",
         [LUFFA_NO_POLICY] = "no policy has this number",
+        [LUFFA_BAD_CONFIG] = "luffa_config_default didn't make the configuration, or it is of a newer version",
     };
     const char *text = status < sizeof TEXTS / sizeof *TEXTS ? TEXTS[status] : NULL;
     return text != NULL ? text : "unknown status";
 }
 
-luffa_config luffa_config_default(uint32_t policy) {
-    luffa_config config = {.shards = 8};
-    config.policy = (luffa_policy){
-        .kind = policy,
-        .high_priority_pool = {9, 10},
-        .window = {1, 10},
-        .protected_ = {8, 10},
-        .sketch_buckets = 2719,
-        .sketch_rows = 3,
-        .small_to_main = 1,
-        .small_queue = {1, 10},
-        .ghost_queue = {1, 1},
+/* Writes what this library knows of a structure of a program that may know less of it, or more, which becomes 0. */
+static void write_as(void *to, size_t size, const void *from, size_t known) {
+    memset(to, 0, size);
+    memcpy(to, from, size < known ? size : known);
+}
+
+void luffa_config_init(luffa_config *config, size_t size, uint32_t policy) {
+    const luffa_config defaults = {
+        .size = size,
+        .shards = 8,
+        .policy = {.kind = policy,
+                   .high_priority_pool = {9, 10},
+                   .window = {1, 10},
+                   .protected_ = {8, 10},
+                   .sketch_buckets = 2719,
+                   .sketch_rows = 3,
+                   .small_to_main = 1,
+                   .small_queue = {1, 10},
+                   .ghost_queue = {1, 1}},
     };
-    return config;
+    write_as(config, size, &defaults, sizeof defaults);
+}
+
+/* What a configuration has in version 0.1. A later field mustn't lie where that had padding. */
+enum { FIRST_CONFIG = offsetof(luffa_config, policy) + sizeof(luffa_policy) };
+_Static_assert(FIRST_CONFIG % _Alignof(luffa_config) == 0, "the configuration ends in padding");
+
+/* Whether a configuration has the fields of version 0.1, and what this library doesn't know is 0. */
+static bool is_config(const luffa_config *config) {
+    if (config->size < FIRST_CONFIG)
+        return false;
+    const unsigned char *bytes = (const unsigned char *)config;
+    for (size_t i = sizeof *config; i < config->size; i++)
+        if (bytes[i] != 0)
+            return false;
+    return true;
+}
+
+/* Tells the processor that this thread spins, where it has an instruction for that. */
+static inline void spin(void) {
+#if defined(__x86_64__)
+    __builtin_ia32_pause();
+#elif defined(__aarch64__)
+    __asm__ __volatile__("yield");
+#endif
 }
 
 static __attribute__((noinline, cold)) void wait_for_lock(struct slot *slot) {
@@ -100,7 +132,7 @@ static __attribute__((noinline, cold)) void wait_for_lock(struct slot *slot) {
             if (++turns % SPINS == 0)
                 sched_yield();
             else
-                __builtin_ia32_pause();
+                spin();
     while (atomic_exchange_explicit(&slot->is_locked, 1, memory_order_acquire) != 0);
 }
 
@@ -205,6 +237,8 @@ static luffa_status create_slot(luffa_cache *cache, const luffa_config *config, 
 
 luffa_status luffa_create(const luffa_config *config, luffa_cache **made) {
     *made = NULL;
+    if (!is_config(config))
+        return LUFFA_BAD_CONFIG;
     if (config->shards == 0)
         return LUFFA_NO_SHARDS;
     luffa_cache *cache = calloc(1, sizeof *cache);
@@ -524,7 +558,7 @@ luffa_status luffa_reconfigure(luffa_cache *cache, const luffa_policy *policy) {
     return status;
 }
 
-luffa_stats luffa_get_stats(luffa_cache *cache) {
+static luffa_stats stats_of(luffa_cache *cache) {
     luffa_stats stats = {0};
     for (size_t i = 0; i < cache->shards; i++) {
         struct slot *slot = &cache->slots[i];
@@ -541,9 +575,14 @@ luffa_stats luffa_get_stats(luffa_cache *cache) {
     return stats;
 }
 
-uint64_t luffa_usage(luffa_cache *cache) { return luffa_get_stats(cache).usage; }
+void luffa_read_stats(luffa_cache *cache, luffa_stats *stats, size_t size) {
+    const luffa_stats found = stats_of(cache);
+    write_as(stats, size, &found, sizeof found);
+}
 
-uint64_t luffa_entries(luffa_cache *cache) { return luffa_get_stats(cache).entries; }
+uint64_t luffa_usage(luffa_cache *cache) { return stats_of(cache).usage; }
+
+uint64_t luffa_entries(luffa_cache *cache) { return stats_of(cache).entries; }
 
 size_t luffa_capacity(const luffa_cache *cache) { return cache->capacity; }
 

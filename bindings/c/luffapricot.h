@@ -22,12 +22,24 @@
  * cancelled meanwhile, or from the child of a fork in a process with threads.
  *
  * Nothing here aborts. A call that returns a status changes nothing unless it returns LUFFA_OK or says otherwise.
+ *
+ * Versions. A library with the same SONAME, libluffapricot.so.0, runs the programs that were compiled with an older
+ * header. It may have more calls, statuses, policies and flags, and more fields at the end of luffa_config,
+ * luffa_policy (in `reserved`), luffa_terms (each with a flag of its own), luffa_made and luffa_stats. luffa_ratio and
+ * luffa_entry stay as they are.
  */
 #ifndef LUFFAPRICOT_H
 #define LUFFAPRICOT_H
 
 #include <stddef.h>
 #include <stdint.h>
+
+/* The version of this header, as numbers, as one number and as text; luffa_version() is the library's. */
+#define LUFFA_VERSION_MAJOR 0
+#define LUFFA_VERSION_MINOR 1
+#define LUFFA_VERSION_PATCH 0
+#define LUFFA_VERSION_NUMBER (LUFFA_VERSION_MAJOR * 10000 + LUFFA_VERSION_MINOR * 100 + LUFFA_VERSION_PATCH)
+#define LUFFA_VERSION "0.1.0"
 
 #ifdef __cplusplus
 extern "C" {
@@ -50,10 +62,11 @@ enum {
     LUFFA_WEIGHT = 8,           /* F8: the weights would overflow */
     LUFFA_HANDLES = 9,          /* F9: too many entries of a record */
     LUFFA_IDS = 10,             /* F10: no number is left for a record or a fetch */
-    LUFFA_CANCELLED = 15,       /* F15: the callback of luffa_get_or_insert made no value */
+    LUFFA_CANCELLED = 15,       /* F15: the callback of luffa_get_or_insert made no value, here or in another thread */
     LUFFA_WRONG_POLICY = 17,    /* F17: the configuration is of another policy */
     LUFFA_MISSING = 101,        /* the cache has no such record */
-    LUFFA_NO_POLICY = 105       /* no policy has this number */
+    LUFFA_NO_POLICY = 105,      /* no policy has this number */
+    LUFFA_BAD_CONFIG = 109      /* luffa_config_default didn't make the configuration, or it is of a newer version */
 };
 
 /* The policies, which decide what is evicted. */
@@ -68,7 +81,8 @@ typedef struct luffa_ratio {
     uint32_t den;
 } luffa_ratio;
 
-/* A policy and its configuration. Only the fields of its kind are read. */
+/* A policy and its configuration, of which only the fields of its kind are read. Begin with that of
+ * luffa_config_default. */
 typedef struct luffa_policy {
     uint32_t kind;                  /* LUFFA_FIFO to LUFFA_SIEVE */
     luffa_ratio high_priority_pool; /* LRU: 0 to 1 */
@@ -79,6 +93,7 @@ typedef struct luffa_policy {
     uint8_t small_to_main;          /* S3-FIFO: uses that move a record to the main queue */
     luffa_ratio small_queue;        /* S3-FIFO: above 0, below 1 */
     luffa_ratio ghost_queue;        /* S3-FIFO: any */
+    uint32_t reserved[9];           /* 0 */
 } luffa_policy;
 
 /* Gives a key its hash. Equal keys must have equal hashes. */
@@ -91,14 +106,16 @@ typedef uint64_t (*luffa_hash)(void *context, const void *key, size_t key_len);
 typedef void (*luffa_listener)(void *context, int event, const void *key, size_t key_len, const void *value,
                                size_t value_len);
 
+/* How a cache is created. luffa_config_default makes one, of which a program sets what it wants otherwise. */
 typedef struct luffa_config {
-    luffa_policy policy;
+    size_t size;     /* private: what the header had, by which the program was compiled */
     size_t capacity; /* the weight that the records may have together */
-    size_t shards;   /* each has its own lock and an equal share of the capacity */
+    size_t shards;   /* each has its own lock and an equal share of the capacity; take 1 for a small cache */
     luffa_hash hash; /* NULL: a fast hash whose seed is random for each cache */
     void *hash_context;
     luffa_listener listener; /* NULL: nobody is told */
     void *listener_context;
+    luffa_policy policy;
 } luffa_config;
 
 typedef struct luffa_cache luffa_cache;
@@ -118,7 +135,7 @@ typedef struct luffa_entry {
     void *shard;
 } luffa_entry;
 
-/* How a record is inserted. */
+/* How a record is inserted. A field without its flag isn't read. */
 typedef struct luffa_terms {
     size_t weight;
     uint64_t expires; /* from this time on no lookup finds the record, if the flags have LUFFA_EXPIRES */
@@ -152,16 +169,23 @@ typedef struct luffa_stats {
     uint64_t misses;
 } luffa_stats;
 
-/* The version, and whether the library was made of the proved archive: "0.1.0 (proved)" or "0.1.0 (unproved)". */
+/* The version, and whether the library was made of the proved archive: "0.1.0 (proved)", "0.1.0 (unproved)" or
+ * "0.1.0 (unproved, with checks)". */
 const char *luffa_version(void);
 
 /* What a status means, in a few words. Never NULL. */
 const char *luffa_strerror(luffa_status status);
 
-/* A configuration of this policy with its defaults, 8 shards and the capacity 0. */
-luffa_config luffa_config_default(uint32_t policy);
+/* Writes a configuration of this policy with its defaults, 8 shards and the capacity 0. `size` is sizeof *config. */
+void luffa_config_init(luffa_config *config, size_t size, uint32_t policy);
 
-/* Creates a cache. F1 to F7, or LUFFA_NO_POLICY; then *cache is NULL. */
+static inline luffa_config luffa_config_default(uint32_t policy) {
+    luffa_config config;
+    luffa_config_init(&config, sizeof config, policy);
+    return config;
+}
+
+/* Creates a cache. F1 to F7, LUFFA_NO_POLICY or LUFFA_BAD_CONFIG; then *cache is NULL. */
 luffa_status luffa_create(const luffa_config *config, luffa_cache **cache);
 
 /* Tells the listener that all records leave (LUFFA_CLEAR), and frees the cache with the entries that are still held.
@@ -193,8 +217,10 @@ void luffa_release(luffa_entry *entry);
  * Returns an entry of the key's record, unless `entry` is NULL, or lets `make` make its value and inserts it. Of
  * several callers that ask for the same missing key one runs `make`, and the others wait for its result. If `make` asks
  * for the same key itself, it waits forever. If the key is inserted meanwhile, that record is the result for all of
- * them. LUFFA_CANCELLED for all if `make` returned another number than 0, or there was no memory for its value; F7 to
- * F10.
+ * them.
+ *
+ * LUFFA_CANCELLED if `make` returned another number than 0, or there was no memory for its value: for the caller that
+ * ran it, and for each that waited. None of them tries again; the next call for the key runs its `make`. F7 to F10.
  */
 luffa_status luffa_get_or_insert(luffa_cache *cache, uint64_t now, const void *key, size_t key_len, luffa_make make,
                                  void *context, luffa_entry *entry);
@@ -226,8 +252,16 @@ luffa_status luffa_clear(luffa_cache *cache);
 /* Evicts all records, except those that LRU pins. F7: some may be left. */
 luffa_status luffa_evict_all(luffa_cache *cache, uint64_t now);
 
-/* What the cache holds, shard by shard, so it is no single moment's while other threads change the cache. */
-luffa_stats luffa_get_stats(luffa_cache *cache);
+/* Writes what the cache holds, shard by shard, so it is no single moment's while other threads change the cache. `size`
+ * is sizeof *stats. */
+void luffa_read_stats(luffa_cache *cache, luffa_stats *stats, size_t size);
+
+static inline luffa_stats luffa_get_stats(luffa_cache *cache) {
+    luffa_stats stats;
+    luffa_read_stats(cache, &stats, sizeof stats);
+    return stats;
+}
+
 uint64_t luffa_usage(luffa_cache *cache);
 uint64_t luffa_entries(luffa_cache *cache);
 size_t luffa_capacity(const luffa_cache *cache);

@@ -31,6 +31,8 @@ static void creating(void) {
         config = luffa_config_default(kind);
         CHECK(luffa_create(&config, &cache) == LUFFA_NO_POLICY && cache == NULL);
     }
+    config = (luffa_config){.capacity = 1, .shards = 1};
+    CHECK(luffa_create(&config, &cache) == LUFFA_BAD_CONFIG && cache == NULL);
     luffa_destroy(NULL);
     luffa_entry nothing = {0};
     luffa_release(&nothing);
@@ -38,6 +40,47 @@ static void creating(void) {
     CHECK(strcmp(luffa_strerror(LUFFA_NO_MEMORY), "out of memory") == 0);
     for (luffa_status status = 0; status < 300; status++)
         CHECK(*luffa_strerror(status) != 0);
+}
+
+/* Structures of a program whose header has a field more, or, for what is written, some less. */
+static void growing(void) {
+    struct {
+        luffa_config config;
+        uint64_t more;
+    } later = {.more = 1};
+    struct {
+        luffa_stats stats;
+        uint64_t more;
+    } found = {.more = 1};
+    luffa_cache *cache;
+    luffa_config_init(&later.config, sizeof later, LUFFA_SIEVE);
+    CHECK(later.config.size == sizeof later && later.more == 0 && later.config.policy.kind == LUFFA_SIEVE);
+    later.config.capacity = 8;
+    CHECK(luffa_create(&later.config, &cache) == LUFFA_OK && luffa_shards(cache) == 8);
+    CHECK(put(cache, "a", "x") == LUFFA_OK);
+    luffa_read_stats(cache, &found.stats, sizeof found);
+    CHECK(found.stats.entries == 1 && found.stats.usage == 1 && found.more == 0);
+    memset(&found, 7, sizeof found);
+    luffa_read_stats(cache, &found.stats, offsetof(luffa_stats, hits));
+    CHECK(found.stats.entries == 1 && found.stats.hits == 0x0707070707070707);
+    luffa_destroy(cache);
+    for (unsigned bit = 0; bit < 64; bit++) { /* what this library doesn't know */
+        later.more = (uint64_t)1 << bit;
+        CHECK(luffa_create(&later.config, &cache) == LUFFA_BAD_CONFIG && cache == NULL);
+    }
+    for (later.config.size = 0; later.config.size < sizeof later.config; later.config.size++)
+        CHECK(luffa_create(&later.config, &cache) == LUFFA_BAD_CONFIG);
+    memset(&later, 7, sizeof later);
+    luffa_config_init(&later.config, offsetof(luffa_config, listener), LUFFA_LRU);
+    CHECK(later.config.shards == 8 && later.config.hash == NULL && later.config.listener != NULL);
+}
+
+/* The version as text and as numbers, in the header and in the library. */
+static void versions(void) {
+    char text[64];
+    snprintf(text, sizeof text, "%d.%d.%d", LUFFA_VERSION_MAJOR, LUFFA_VERSION_MINOR, LUFFA_VERSION_PATCH);
+    CHECK(strcmp(text, LUFFA_VERSION) == 0 && strncmp(luffa_version(), text, strlen(text)) == 0);
+    CHECK(luffa_version()[strlen(text)] == ' ' && LUFFA_VERSION_NUMBER >= 100);
 }
 
 static void one_record(luffa_cache *cache) {
@@ -202,9 +245,13 @@ static uint64_t number_of(void *context, const void *key, size_t key_len) {
 
 /* A cache that was created with one configuration and got another, after gets and inserts. */
 static luffa_cache *used(const luffa_policy *first, const luffa_policy *then) {
-    luffa_config config = {.policy = *first, .capacity = 80, .shards = 4, .hash = number_of};
+    luffa_config config = luffa_config_default(first->kind);
     luffa_cache *cache;
     uint32_t state = 1;
+    config.policy = *first;
+    config.capacity = 80;
+    config.shards = 4;
+    config.hash = number_of;
     CHECK(luffa_create(&config, &cache) == LUFFA_OK && luffa_reconfigure(cache, then) == LUFFA_OK);
     for (int i = 0; i < 5000; i++) {
         uint32_t key = (state >> 8) % 200;
@@ -453,6 +500,8 @@ static void colliding(uint32_t policy) {
 
 int main(void) {
     creating();
+    growing();
+    versions();
     hashing();
     reconfiguring();
     for (uint32_t policy = LUFFA_FIFO; policy <= LUFFA_SIEVE; policy++) {

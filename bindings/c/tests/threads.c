@@ -196,10 +196,56 @@ static void insert_wakes(void) {
     luffa_destroy(cache);
 }
 
+enum { WAITERS = 6 };
+
+static atomic_int cancelled, made_again;
+static pthread_t waiters[WAITERS];
+
+static int make_again(void *context, const void *key, size_t key_len, luffa_made *out) {
+    (void)context;
+    made_again++;
+    out->value = key;
+    out->value_len = key_len;
+    return 0;
+}
+
+static void *wait_in_vain(void *context) {
+    luffa_entry entry = {0};
+    (void)context;
+    cancelled += luffa_get_or_insert(cache, 0, "fails", 5, make_again, NULL, &entry) == LUFFA_CANCELLED;
+    luffa_release(&entry);
+    return NULL;
+}
+
+/* Fails once others wait for it. */
+static int make_none(void *context, const void *key, size_t key_len, luffa_made *out) {
+    (void)context, (void)key, (void)key_len, (void)out;
+    for (int i = 0; i < WAITERS; i++)
+        CHECK(pthread_create(&waiters[i], NULL, wait_in_vain, NULL) == 0);
+    while (luffa_get_stats(cache).misses < 1 + WAITERS)
+        nanosleep(&(struct timespec){0, 1000000}, NULL);
+    return 1;
+}
+
+/* Whoever ran the callback that failed and all who waited for it get F15, and none of them makes a value. The next call
+ * does. */
+static void all_are_refused(void) {
+    luffa_entry entry = {0};
+    cache = created(LUFFA_S3FIFO, 10, 1);
+    CHECK(luffa_get_or_insert(cache, 0, "fails", 5, make_none, NULL, &entry) == LUFFA_CANCELLED && entry.shard == NULL);
+    for (int i = 0; i < WAITERS; i++)
+        pthread_join(waiters[i], NULL);
+    CHECK(cancelled == WAITERS && made_again == 0 && luffa_entries(cache) == 0);
+    CHECK(luffa_get_or_insert(cache, 0, "fails", 5, make_again, NULL, &entry) == LUFFA_OK && made_again == 1);
+    luffa_release(&entry);
+    luffa_destroy(cache);
+}
+
 int main(int argc, char **argv) {
     long threads = argc > 1 ? strtol(argv[1], NULL, 10) : 8;
     double seconds = argc > 2 ? strtod(argv[2], NULL) : 10;
     insert_wakes();
+    all_are_refused();
     for (uint32_t policy = LUFFA_FIFO; policy <= LUFFA_SIEVE; policy++)
         run(policy, threads < MOST_THREADS ? threads : MOST_THREADS, seconds / 5, policy % 2 == 0);
     CHECK(wrong == 0 && made > 0 && left > 0);

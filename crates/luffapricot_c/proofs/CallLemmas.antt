@@ -1,28 +1,43 @@
 -- What the calls of a cache of bytes make of it, where parts of it stay.
-use Rattle.std.proofs.Common.{◌≡◌, ◌∙◌, ◌++◌, ◌∷◌, ℕ, List, [], None, Result, Ok, Err, Bool, true, false, ap, if◌then◌else◌, inl, inr, sym}
+use Rattle.std.proofs.Common.{◌≡◌, ◌∙◌, ◌++◌, ◌∷◌, ℕ, List, [], None, Result, Ok, Err, Bool, true, false, MatchResult, ap, if◌then◌else◌, inl, inr, refl, sym}
 use Rattle.std.specs.Prelude.{slice_index_or}
 use Rattle.slab.specs.Slab.{Slab}
 use Rattle.foyer_policy.specs.declared.error.Reason.{Reason}
 use Rattle.foyer_core.specs.declared.outcome.InsertedOnto.{InsertedOnto}
+use Rattle.foyer_core.specs.CallLaws.{AnswersIn}
+use Rattle.foyer_core.specs.Cores.{fetches_of, hashes_of, meaning_of_core}
 use Rattle.foyer_core.specs.Values.{Answered, Held}
 use Rattle.luffapricot_c.specs.declared.cache.ByteCache.{ByteCache}
 use Rattle.luffapricot_c.specs.declared.hold.Hold.{Hold}
 use Rattle.luffapricot_c.specs.declared.key.Key.{Key}
 use Rattle.luffapricot_c.specs.declared.record.LuffaRecord.{LuffaRecord}
 use Rattle.luffapricot_c.specs.declared.value.Value.{Value}
-use Rattle.luffapricot_c.specs.Calls.{CoreInserts, HoldsEntry, IfTaken, InsertsBytes}
+use Rattle.luffapricot_c.specs.Calls.{AnswersWaiting, CoreInserts, HoldsEntry, IfTaken, InsertsBytes}
+use Rattle.luffapricot_c.specs.Frames.{Frames}
+
+-- what the core says of those who wait
+pub answers_waiting : (own : Key) (result : Result (InsertedOnto Key Value Answered ℕ) Reason) (old new : ByteCache) →
+    MatchResult result
+    (λ made. AnswersIn (meaning_of_core old.core).same (hashes_of old.core own) made.entry made.answers
+    (fetches_of old.core) (fetches_of new.core))
+    (λ _. fetches_of new.core ≡ fetches_of old.core) → AnswersWaiting own result old new
+answers_waiting own (Ok made) old new a = a
+answers_waiting own (Err reason) old new a = a
 
 -- an insert with the core's answer
 pub inserts_bytes : (now hash : ℕ) (key bytes : List ℕ) (weight : ℕ) (p : Answered)
     (result : Result (InsertedOnto Key Value Answered ℕ) Reason) (old new : ByteCache) →
-    CoreInserts now hash key bytes weight p result old new → InsertsBytes now hash key bytes weight p result old new
-inserts_bytes now hash key bytes weight p (Ok made) old new i = i
-inserts_bytes now hash key bytes weight p (Err reason) old new i = inr i
+    CoreInserts now hash key bytes weight p result old new → new.holds.slots ≡ old.holds.slots →
+    InsertsBytes now hash key bytes weight p result old new
+inserts_bytes now hash key bytes weight p (Ok made) old new i held = i
+inserts_bytes now hash key bytes weight p (Err reason) old new i held =
+    inr (i, record { held = held; fetches = i.answered; left = refl; listener = i.rest.listener })
 
 -- room for more changes nothing that is held
 pub holds_same : (entry : Held Key Value Answered) (shown : LuffaRecord) (old before new : Slab Hold) →
     before.slots ≡ old.slots → HoldsEntry entry shown before new → HoldsEntry entry shown old new
 holds_same entry shown old before new same h = record {
+  vacant = ap (λ slots. slice_index_or slots shown.number None) (sym same) ∙ h.vacant;
   held = record {
     changed = h.held.changed;
     others = λ k other. h.held.others k other ∙ ap (λ slots. slice_index_or slots k None) same;
@@ -30,21 +45,37 @@ holds_same entry shown old before new same h = record {
   shows = h.shows;
 }
 
+-- so for all else
+pub frames_same : (old new : ByteCache) (holds : Slab Hold) → holds.slots ≡ old.holds.slots →
+    Frames (record old { holds = holds }) new → Frames old new
+frames_same old new holds same f = record {
+  held = f.held ∙ same;
+  fetches = f.fetches;
+  left = f.left;
+  listener = f.listener;
+}
+
 -- an insert that failed over more room for what is held
 pub failed_same : (now hash : ℕ) (key bytes : List ℕ) (weight : ℕ) (p : Answered) (reason : Reason)
-    (old new : ByteCache) (holds : Slab Hold) →
+    (old new : ByteCache) (holds : Slab Hold) → holds.slots ≡ old.holds.slots →
     InsertsBytes now hash key bytes weight p (Err reason) (record old { holds = holds }) new →
     InsertsBytes now hash key bytes weight p (Err reason) old new
-failed_same now hash key bytes weight p reason old new holds (inl lacks) = inl lacks
-failed_same now hash key bytes weight p reason old new holds (inr i) = inr (record {
-  own = i.own;
-  own_is = i.own_is;
-  value = i.value;
-  value_is = i.value_is;
-  leaves = i.leaves;
-  inserts = i.inserts;
-  told = i.told;
-})
+failed_same now hash key bytes weight p reason old new holds same (inl lacks) =
+    inl (lacks.0, lacks.1, frames_same old new holds same lacks.2)
+failed_same now hash key bytes weight p reason old new holds same (inr i) = inr (
+  record {
+    own = i.0.own;
+    own_is = i.0.own_is;
+    value = i.0.value;
+    value_is = i.0.value_is;
+    leaves = i.0.leaves;
+    inserts = i.0.inserts;
+    answered = i.0.answered;
+    told = i.0.told;
+    rest = i.0.rest;
+  },
+  frames_same (record old { left = new.left }) new holds same i.1,
+)
 
 -- what left before was taken
 pub taken_is : {L : Type 0} (ls : List L) (status : ℕ) (old new : ByteCache) (step : Type 0) → ls ≡ [] → step →

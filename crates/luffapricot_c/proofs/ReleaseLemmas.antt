@@ -10,6 +10,7 @@ use Rattle.luffapricot_c.specs.declared.hold.Held.TheVariants.{Entry, Gone}
 use Rattle.luffapricot_c.specs.declared.hold.Hold.{Hold}
 use Rattle.luffapricot_c.specs.declared.key.Key.{Key}
 use Rattle.luffapricot_c.specs.declared.value.Value.{Value}
+use Rattle.luffapricot_c.specs.Frames.{Frames}
 use Rattle.luffapricot_c.specs.Releases.{Releases, ReleasesHeld, last_of}
 
 abbrev Last : Type 0
@@ -54,10 +55,11 @@ pub releases : (named : Option Hold) (hold : Hold) (entry : EntryOf Key Value An
     (number status : ℕ) (old new : ByteCache) → named ≡ Some hold → hold.held ≡ Entry entry →
     EndsEntry (meaning_of_core old.core) entry leave (core_of old.core) (core_of new.core) →
     Names old.has_listener leave number status old.holds new.holds → new.left ≡ old.left →
-    Releases named number status old new
-releases named hold entry leave number status old new is held ends names left =
+    Frames (record old { holds = new.holds }) new → Releases named number status old new
+releases named hold entry leave number status old new is held ends names left rest =
     subst (λ n. Releases n number status old new) (sym is) (
       subst (λ h. ReleasesHeld h number status old new) (sym held)
           (record { leave = leave; ends = ends; names = names.0; status_is = names.1 }),
       left,
+      rest,
     )

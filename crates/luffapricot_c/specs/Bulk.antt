@@ -13,10 +13,15 @@ use Rattle.luffapricot_c.specs.declared.cache.ByteCache.{ByteCache}
 use Rattle.luffapricot_c.specs.declared.key.Key.{Key}
 use Rattle.luffapricot_c.specs.declared.value.Value.{Value}
 use Rattle.luffapricot_c.specs.Calls.{IsToldOf}
+use Rattle.luffapricot_c.specs.Frames.{Frames}
+
+-- these left, which is told, and beside them nothing changed but records
+abbrev pub Leaves : List (Event × Gone Key Value Answered) → ByteCache → ByteCache → Type 0
+Leaves leaves old new = IsToldOf leaves old new × Frames (record old { left = new.left }) new
 
 -- a core is resized, or memory runs out meanwhile
 abbrev pub ResizesTo : ℕ → ℕ → ℕ → ByteCache → ByteCache → Type 0
-ResizesTo now capacity status old new = (leaves : List (Event × Gone Key Value Answered)) × IsToldOf leaves old new
+ResizesTo now capacity status old new = (leaves : List (Event × Gone Key Value Answered)) × Leaves leaves old new
     × (((status ≡ 0) × Resizes (meaning_of_core old.core)
     (InTurn (EvictsToCapacity (at_moment now (meaning_of_core old.core)))) capacity (core_of old.core) leaves
     (core_of new.core))
@@ -27,7 +32,7 @@ ResizesTo now capacity status old new = (leaves : List (Event × Gone Key Value 
 
 -- all that is not pinned is evicted, or memory runs out meanwhile
 abbrev pub EvictsAll : ℕ → ℕ → ByteCache → ByteCache → Type 0
-EvictsAll now status old new = (leaves : List (Event × Gone Key Value Answered)) × IsToldOf leaves old new
+EvictsAll now status old new = (leaves : List (Event × Gone Key Value Answered)) × Leaves leaves old new
     × (((status ≡ 0) × OfShards (InTurn (EvictsUnpinned (at_moment now (meaning_of_core old.core)))) (core_of old.core)
     leaves (core_of new.core))
     ⊎ ((status ≡ 7) × OfShards (InTurnUntil (EvictsUnpinned (at_moment now (meaning_of_core old.core)))
@@ -35,9 +40,9 @@ EvictsAll now status old new = (leaves : List (Event × Gone Key Value Answered)
 
 -- all is removed, or memory is refused and nothing changes
 abbrev pub ClearsAll : ℕ → ByteCache → ByteCache → Type 0
-ClearsAll status old new = ((leaves : List (Event × Gone Key Value Answered)) × IsToldOf leaves old new × (status ≡ 0)
+ClearsAll status old new = ((leaves : List (Event × Gone Key Value Answered)) × Leaves leaves old new × (status ≡ 0)
     × OfShards (InTurn (Clears (meaning_of_core old.core))) (core_of old.core) leaves (core_of new.core))
-    ⊎ ((status ≡ 7) × (core_of new.core ≡ core_of old.core))
+    ⊎ ((status ≡ 7) × (core_of new.core ≡ core_of old.core) × Frames old new)
 
 -- the number of a configuration's fault, or 0
 abbrev pub fault_number : Option Reason → ℕ
@@ -51,3 +56,4 @@ pub record Reconfigures (config : EvictionConfig) (status : ℕ) (old new : Byte
   pub wrong : NotTaken (meaning_of_core old.core) config (core_of old.core).shards → status ≡ 17
   pub taken : TakenByEach (meaning_of_core old.core) config (core_of old.core).shards →
       status ≡ fault_number ((meaning_of_core old.core).policy.fault config)
+  pub rest : Frames old new

@@ -1,12 +1,13 @@
 -- What the calls of a cache of bytes make of it, by the steps of its core.
 use Rattle.std.specs.Prelude.{◌≡◌, ℕ, ◌+◌, ◌++◌, ◌⊎◌, Bool, true, false, List, [], ◌∷◌, Option, Some, None, Result, Ok, Err, if◌then◌else◌, is_some, length}
-use Rattle.slab.specs.Slab.{Slab, Updates}
+use Rattle.slab.specs.Slab.{Slab, Updates, get}
 use Rattle.foyer_policy.specs.declared.error.Reason.{Reason}
 use Rattle.foyer_policy.specs.declared.error.Reason.TheVariants.{NoMemory}
 use Rattle.foyer_policy.specs.declared.types.Event.{Event}
 use Rattle.foyer_policy.specs.declared.types.Event.TheVariants.{Remove}
 use Rattle.foyer_policy.specs.declared.types.Source.TheVariants.{Outer}
 use Rattle.foyer_core.specs.declared.outcome.InsertedOnto.{InsertedOnto}
+use Rattle.foyer_core.specs.CallLaws.{AnswersIn}
 use Rattle.foyer_core.specs.Core.{AtShard, InsertsWeighed, hit_in}
 use Rattle.foyer_core.specs.CoreFetches.{open_in}
 use Rattle.foyer_core.specs.Cores.{core_of, fetches_of, hashes_of, meaning_of_core}
@@ -24,6 +25,7 @@ use Rattle.luffapricot_c.specs.declared.record.LuffaRecord.{LuffaRecord}
 use Rattle.luffapricot_c.specs.declared.value.Value.{Value}
 use Rattle.luffapricot_c.specs.Holds.{given}
 use Rattle.luffapricot_c.specs.Bytes.{IsKey, IsValue, Shows, admitted_with, copied_into}
+use Rattle.luffapricot_c.specs.Frames.{Frames}
 
 -- A call on what an address holds, and its status: with nothing there, 107, and still nothing is there; else what is there
 -- makes a step.
@@ -32,9 +34,9 @@ OnHeld step None status held = (status ≡ 107) × (held ≡ None)
 OnHeld step (Some old) status None = ⊥
 OnHeld step (Some old) status (Some new) = step old status new
 
--- memory was refused before the core was asked, which is as it was
+-- memory was refused before the core was asked, and all is as it was
 abbrev pub Lacks : Reason → ByteCache → ByteCache → Type 0
-Lacks reason old new = (reason ≡ NoMemory) × (core_of new.core ≡ core_of old.core)
+Lacks reason old new = (reason ≡ NoMemory) × (core_of new.core ≡ core_of old.core) × Frames old new
 
 -- a get of a key by the core
 abbrev pub CoreGets : ℕ → Key → Result (Option (Held Key Value Answered)) Reason → ByteCache → ByteCache → Type 0
@@ -64,10 +66,17 @@ Ends entry old new = (leave : Option (Event × Gone Key Value Answered))
 abbrev pub IsToldOf : List (Event × Gone Key Value Answered) → ByteCache → ByteCache → Type 0
 IsToldOf leaves old new = new.left.items ≡ (if old.has_listener then old.left.items ++ leaves else [])
 
--- an entry is held by the number of a record that shows it
+-- an entry is held by the number of a record that shows it, which named nothing before
 pub record HoldsEntry (entry : Held Key Value Answered) (shown : LuffaRecord) (old new : Slab Hold) : Type 0 where
+  pub vacant : get old shown.number ≡ None
   pub held : Updates old new shown.number (Some (record { held = Entry entry }))
   pub shows : Shows shown entry
+
+-- each who waits for the key gets an entry like this one, and its fetch is closed; after a refusal all go on waiting
+abbrev pub AnswersWaiting : Key → Result (InsertedOnto Key Value Answered ℕ) Reason → ByteCache → ByteCache → Type 0
+AnswersWaiting own (Ok made) old new = AnswersIn (meaning_of_core old.core).same (hashes_of old.core own) made.entry
+    made.answers (fetches_of old.core) (fetches_of new.core)
+AnswersWaiting own (Err _) old new = fetches_of new.core ≡ fetches_of old.core
 
 -- the core's insert of a record of these bytes, weight and properties
 pub record CoreInserts (now hash : ℕ) (key bytes : List ℕ) (weight : ℕ) (p : Answered)
@@ -81,21 +90,24 @@ pub record CoreInserts (now hash : ℕ) (key bytes : List ℕ) (weight : ℕ) (p
       (λ admitted. admitted ≡ true) (hashes_of old.core own) own value (admitted_with p)
       (1 + length (waiters_of (open_in (fetches_of old.core) (hashes_of old.core own, own))))
       (insertion_onto result leaves) (core_of old.core) (core_of new.core)
+  pub answered : AnswersWaiting own result old new
   pub told : IsToldOf leaves old new
+  pub rest : Frames (record old { core = new.core; holds = new.holds; left = new.left }) new
 
 -- an insert, with what the core answers, or for want of memory before that
 abbrev pub InsertsBytes : ℕ → ℕ → List ℕ → List ℕ → ℕ → Answered → Result (InsertedOnto Key Value Answered ℕ) Reason →
     ByteCache → ByteCache → Type 0
 InsertsBytes now hash key bytes weight p (Ok made) old new = CoreInserts now hash key bytes weight p (Ok made) old new
 InsertsBytes now hash key bytes weight p (Err reason) old new =
-    Lacks reason old new ⊎ CoreInserts now hash key bytes weight p (Err reason) old new
+    Lacks reason old new
+    ⊎ (CoreInserts now hash key bytes weight p (Err reason) old new × Frames (record old { left = new.left }) new)
 
 -- an insert whose entry ends at once
 abbrev pub Inserts : {A : Type 0} → ℕ → ℕ → List ℕ → List ℕ → ℕ → Answered → Result A Reason → ByteCache → ByteCache →
     Type 0
 Inserts now hash key bytes weight p (Ok _) old new = (made : InsertedOnto Key Value Answered ℕ) × (mid : ByteCache)
     × CoreInserts now hash key bytes weight p (Ok made) old mid × Ends made.entry mid new
-    × (new.holds ≡ given made.answers old.holds)
+    × (new.holds ≡ given made.answers old.holds) × Frames (record mid { holds = new.holds }) new
 Inserts now hash key bytes weight p (Err reason) old new = InsertsBytes now hash key bytes weight p (Err reason) old new
 
 -- an insert whose entry is held
@@ -117,10 +129,12 @@ pub record Copies (now hash : ℕ) (key out : List ℕ) (len : ℕ) (filled : Li
   pub ends : Ends entry mid new
   pub len_is : len ≡ length entry.kept.value.bytes.items
   pub filled_is : filled ≡ copied_into entry.kept.value.bytes.items out
+  pub rest : Frames old new
 
 -- a get that finds nothing, or fails
 abbrev pub GetsNone : ℕ → ℕ → List ℕ → Result (Option (Held Key Value Answered)) Reason → ByteCache → ByteCache → Type 0
 GetsNone now hash key answer old new = (own : Key) × IsKey hash key own × CoreGets now own answer old new
+    × Frames old new
 
 -- a get that copies the value of what it finds
 abbrev pub GetsCopy : ℕ → ℕ → List ℕ → List ℕ → Result (Option ℕ) Reason → List ℕ → ByteCache → ByteCache → Type 0
@@ -136,6 +150,7 @@ pub record GetsHeld (now hash : ℕ) (key : List ℕ) (shown : LuffaRecord) (old
   pub entry : Held Key Value Answered
   pub gets : CoreGets now own (Ok (Some entry)) old new
   pub holds : HoldsEntry entry shown old.holds new.holds
+  pub rest : Frames (record old { holds = new.holds }) new
 
 -- a get that holds what it finds
 abbrev pub GetsEntry : ℕ → ℕ → List ℕ → Result Bool Reason → LuffaRecord → ByteCache → ByteCache → Type 0
@@ -152,11 +167,12 @@ pub record RemovesHeld (hash : ℕ) (key : List ℕ) (shown : LuffaRecord) (old 
   pub removes : CoreRemoves own (Ok (Some out)) old new
   pub holds : HoldsEntry out.0 shown old.holds new.holds
   pub told : IsToldOf ((Remove, out.1) ∷ []) old new
+  pub rest : Frames (record old { holds = new.holds; left = new.left }) new
 
 -- a removal that finds nothing, or fails
 abbrev pub RemovesNone : ℕ → List ℕ → Result (Option (Held Key Value Answered × Gone Key Value Answered)) Reason →
     ByteCache → ByteCache → Type 0
-RemovesNone hash key answer old new = (own : Key) × IsKey hash key own × CoreRemoves own answer old new
+RemovesNone hash key answer old new = (own : Key) × IsKey hash key own × CoreRemoves own answer old new × Frames old new
 
 -- a removal that holds what it finds
 abbrev pub RemovesEntry : ℕ → List ℕ → Result Bool Reason → LuffaRecord → ByteCache → ByteCache → Type 0
@@ -168,13 +184,18 @@ RemovesEntry hash key (Err reason) shown old new = Lacks reason old new ⊎ Remo
 abbrev pub FindsKey : ℕ → ℕ → List ℕ → Result Bool Reason → ByteCache → ByteCache → Type 0
 FindsKey now hash key (Ok found) old new = (own : Key) × IsKey hash key own × (new.core ≡ old.core)
     × (found ≡ is_some (hit_in (meaning_of_core old.core) now (core_of old.core) (hashes_of old.core own, own)))
+    × Frames old new
 FindsKey now hash key (Err reason) old new = Lacks reason old new
+
+-- a touch of a key that the core is asked for
+abbrev pub AsksTouch : ℕ → ℕ → List ℕ → Result Bool Reason → ByteCache → ByteCache → Type 0
+AsksTouch now hash key answer old new = (own : Key) × IsKey hash key own × CoreTouches now own answer old new
+    × Frames old new
 
 -- a touch of a key
 abbrev pub TouchesKey : ℕ → ℕ → List ℕ → Result Bool Reason → ByteCache → ByteCache → Type 0
-TouchesKey now hash key (Ok found) old new = (own : Key) × IsKey hash key own × CoreTouches now own (Ok found) old new
-TouchesKey now hash key (Err reason) old new = Lacks reason old new
-    ⊎ ((own : Key) × IsKey hash key own × CoreTouches now own (Err reason) old new)
+TouchesKey now hash key (Ok found) old new = AsksTouch now hash key (Ok found) old new
+TouchesKey now hash key (Err reason) old new = Lacks reason old new ⊎ AsksTouch now hash key (Err reason) old new
 
 -- A call that is made only if what left before was taken: if it was not, its status is 108, and nothing changes.
 abbrev pub IfTaken : {L : Type 0} → List L → ℕ → ByteCache → ByteCache → Type 0 → Type 0

@@ -1,6 +1,6 @@
 -- What the calls for fetches make of a cache of bytes, by the steps of its core.
 use Rattle.std.specs.Prelude.{◌≡◌, ℕ, ◌⊎◌, Bool, true, List, None, Some, Result, Ok, Err}
-use Rattle.slab.specs.Slab.{Updates}
+use Rattle.slab.specs.Slab.{Updates, get}
 use Rattle.foyer_policy.specs.Errors.{number_of}
 use Rattle.foyer_policy.specs.declared.error.Reason.{Reason}
 use Rattle.foyer_policy.specs.declared.error.Reason.TheVariants.{TaskCancelled}
@@ -25,6 +25,7 @@ use Rattle.luffapricot_c.specs.declared.record.LuffaRecord.{LuffaRecord}
 use Rattle.luffapricot_c.specs.declared.value.Value.{Value}
 use Rattle.luffapricot_c.specs.Bytes.{IsKey, IsValue, admitted_with, properties_of}
 use Rattle.luffapricot_c.specs.Calls.{HoldsEntry, IsToldOf, Lacks}
+use Rattle.luffapricot_c.specs.Frames.{Frames}
 use Rattle.luffapricot_c.specs.Holds.{given}
 use Rattle.luffapricot_c.specs.Statuses.{open_status}
 
@@ -41,9 +42,9 @@ CoreLooksUp now k number answer old new =
     AtOpen (λ s f t g. LooksUp (meaning_of_core old.core) now s f (hashes_of old.core k, k) number None answer t g)
     (hashes_of old.core k) (core_of old.core) (fetches_of old.core) (core_of new.core) (fetches_of new.core)
 
--- a number waits for the fetch of a key
+-- a number, which named nothing before, waits for the fetch of a key
 abbrev pub HoldsWait : LuffaRecord → ByteCache → ByteCache → Type 0
-HoldsWait shown old new = (shown.number ≡ old.holds.vacant_key)
+HoldsWait shown old new = (shown.number ≡ old.holds.vacant_key) × (get old.holds shown.number ≡ None)
     × Updates old.holds new.holds shown.number (Some (record { held = Waiting }))
 
 -- what is held of a look-up, and the numbers that C gets of a fetch
@@ -53,7 +54,7 @@ HoldsLookup (Ok (Hit entry)) shown fetch old new = HoldsEntry entry shown old.ho
 HoldsLookup (Ok (Lead id token _)) shown fetch old new = (fetch.fetch ≡ id) × (fetch.token ≡ token)
     × HoldsWait shown old new
 HoldsLookup (Ok (Wait token)) shown fetch old new = (fetch.token ≡ token) × HoldsWait shown old new
-HoldsLookup (Err _) shown fetch old new = Unit {0}
+HoldsLookup (Err _) shown fetch old new = new.holds.slots ≡ old.holds.slots
 
 -- a look-up that may lead a fetch or wait for one
 pub record LooksUpKey (now hash : ℕ) (key : List ℕ) (status : ℕ) (shown : LuffaRecord) (fetch : LuffaFetch)
@@ -64,6 +65,7 @@ pub record LooksUpKey (now hash : ℕ) (key : List ℕ) (status : ℕ) (shown : 
   pub looks : CoreLooksUp now own old.holds.vacant_key answer old new
   pub status_is : status ≡ looked_of answer
   pub holds : HoldsLookup answer shown fetch old new
+  pub rest : Frames (record old { core = new.core; holds = new.holds }) new
 
 -- so by its answer: it may also fail for want of memory before the core is asked
 abbrev pub Fetches : ℕ → ℕ → List ℕ → Result ℕ Reason → LuffaRecord → LuffaFetch → ByteCache → ByteCache → Type 0
@@ -90,6 +92,7 @@ pub record CompletesKey (now hash : ℕ) (key : List ℕ) (fetch : ℕ) (bytes :
   pub status_is : status ≡ open_status ended.found
   pub told : IsToldOf ended.leaves.items old new
   pub answered : new.holds ≡ given ended.answers old.holds
+  pub rest : Frames (record old { core = new.core; holds = new.holds; left = new.left }) new
 
 -- so by its answer, or memory is refused before the core is asked
 abbrev pub CompletesOr : ℕ → ℕ → List ℕ → ℕ → List ℕ → LuffaTerms → Result ℕ Reason → ByteCache → ByteCache → Type 0
@@ -106,6 +109,7 @@ pub record CancelsKey (hash : ℕ) (key : List ℕ) (fetch : ℕ) (found : Bool)
   pub core : core_of new.core ≡ core_of old.core
   pub found_is : found ≡ ended.found
   pub answered : new.holds ≡ given ended.answers old.holds
+  pub rest : Frames (record old { core = new.core; holds = new.holds }) new
 
 abbrev pub Cancels : ℕ → List ℕ → ℕ → Result Bool Reason → ByteCache → ByteCache → Type 0
 Cancels hash key fetch (Ok found) old new = CancelsKey hash key fetch found old new

@@ -1,5 +1,5 @@
 -- What C gets that creates a cache.
-use Rattle.std.specs.Prelude.{◌≡◌, ℕ, Bool, [], Option, None, Some}
+use Rattle.std.specs.Prelude.{◌≡◌, ℕ, All, Bool, [], Option, None, Some}
 use Rattle.foyer_policy.specs.Any.{any}
 use Rattle.foyer_policy.specs.Errors.{number_of}
 use Rattle.foyer_policy.specs.Hash.{Digits}
@@ -8,17 +8,19 @@ use Rattle.foyer_policy.specs.declared.eviction_config.EvictionConfig.{EvictionC
 use Rattle.foyer_core.specs.declared.config.RawCacheConfig.{RawCacheConfig}
 use Rattle.foyer_core.specs.declared.filter.AdmitAll.{AdmitAll}
 use Rattle.foyer_core.specs.Core.{IsNewCore}
-use Rattle.foyer_core.specs.Cores.{core_of, meaning_of_core}
+use Rattle.foyer_core.specs.Cores.{core_of, fetches_of, meaning_of_core}
+use Rattle.foyer_core.specs.Inflight.{no_opens}
 use Rattle.luffapricot_c.specs.declared.cache.ByteCache.{ByteCache}
 use Rattle.luffapricot_c.specs.declared.value.GivenWeight.{GivenWeight}
 
--- a cache of one shard, of this policy and capacity, which holds nothing, and of which C holds nothing
+-- a cache of one shard, of this policy and capacity, which holds nothing, has no open fetch, and of which C holds nothing
 pub record IsOpened (config : EvictionConfig) (capacity : ℕ) (has_listener : Bool) (cache : ByteCache) : Type 0 where
   pub given : RawCacheConfig EvictionConfig Digits GivenWeight AdmitAll
   pub capacity_is : given.capacity ≡ capacity
   pub shards_are : given.shards ≡ 1
   pub policy_is : given.eviction_config ≡ config
   pub core : IsNewCore (meaning_of_core cache.core) given (core_of cache.core)
+  pub fetches : All (λ f. f ≡ no_opens) (fetches_of cache.core)
   pub holds : cache.holds.slots ≡ []
   pub left : cache.left.items ≡ []
   pub listener : cache.has_listener ≡ has_listener

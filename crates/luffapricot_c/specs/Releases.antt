@@ -16,6 +16,7 @@ use Rattle.luffapricot_c.specs.declared.key.Key.{Key}
 use Rattle.luffapricot_c.specs.declared.record.LuffaRecord.{LuffaRecord}
 use Rattle.luffapricot_c.specs.declared.value.Value.{Value}
 use Rattle.luffapricot_c.specs.Bytes.{Shows}
+use Rattle.luffapricot_c.specs.Frames.{Frames}
 
 -- the number of a reason to leave
 abbrev pub event_of : Event → ℕ
@@ -57,6 +58,7 @@ ReleasesHeld (Left _) number status old new = (status ≡ 0) × (new.core ≡ ol
 abbrev pub Releases : Option Hold → ℕ → ℕ → ByteCache → ByteCache → Type 0
 Releases None number status old new = (status ≡ 101) × (new ≡ old)
 Releases (Some hold) number status old new = ReleasesHeld hold.held number status old new × (new.left ≡ old.left)
+    × Frames (record old { holds = new.holds }) new
 
 -- what a number that waited was answered
 abbrev pub HeldAnswers : Held → ℕ → ℕ → LuffaRecord → Type 0
@@ -76,9 +78,10 @@ abbrev pub TakesLeft : Result Bool Reason → ℕ → ℕ → ByteCache → Byte
 TakesLeft (Ok true) number count old new = (old.left.items ≢ []) × (count ≡ length old.left.items)
     × (new.left.items ≡ []) × (new.core ≡ old.core) × (get old.holds number ≡ None)
     × Updates old.holds new.holds number (Some (record { held = Left old.left }))
+    × Frames (record old { holds = new.holds; left = new.left }) new
 TakesLeft (Ok false) number count old new = (old.left.items ≡ []) × (new ≡ old)
 TakesLeft (Err reason) number count old new = (reason ≡ NoMemory) × (new.left ≡ old.left) × (new.core ≡ old.core)
-    × (new.holds.slots ≡ old.holds.slots)
+    × Frames old new
 
 -- the record that left at a place among those that a number names
 abbrev pub left_in : Held → ℕ → Option (Event × GoneOf Key Value Answered)

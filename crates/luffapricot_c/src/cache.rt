@@ -144,8 +144,13 @@ impl ByteCache {
         ensures { Inserts now hash key.now bytes.now weight (plain (expiry_of expires)) result self.old self.new }
     {
         match self.insert_with(now, hash, key, bytes, weight, plain_properties(expires)) {
-            Ok(InsertedOnto { entry, answers }) => {
-                answer(&mut self.holds, answers);
+            Ok(
+                InsertedOnto {
+                    entry,
+                    answers: waiting,
+                },
+            ) => {
+                answer(&mut self.holds, waiting);
                 // A record that is not phantom stays when its handle is dropped.
                 drop(self.core.drop_entry(entry));
                 Ok(())

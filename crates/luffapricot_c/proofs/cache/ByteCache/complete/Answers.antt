@@ -22,4 +22,5 @@ returns c =
       told = kept_told c.args.self.now.has_listener c.args.self.now.left.items _ c.keep.new.kept.items none
           c.keep.ensures;
       answered = c.answer.ensures;
+      rest = record { held = refl; fetches = refl; left = refl; listener = refl };
     }

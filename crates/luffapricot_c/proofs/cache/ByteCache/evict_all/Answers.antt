@@ -9,8 +9,11 @@ returns-in-Ok c =
     let none : c.args.self.now.left.items ≡ [] = grind (arith, common_steps, c.is_empty.ensures, c.if-not-is_empty.false) in
     taken_is c.args.self.now.left.items _ _ _ _ none (
       c.in-Ok.left.items,
-      kept_told c.args.self.now.has_listener c.args.self.now.left.items c.in-Ok.left.items c.keep.new.kept.items none
-          c.keep.ensures,
+      (
+        kept_told c.args.self.now.has_listener c.args.self.now.left.items c.in-Ok.left.items
+            c.keep.new.kept.items none c.keep.ensures,
+        record { held = refl; fetches = c.in-Ok.ensures.fetches; left = refl; listener = refl },
+      ),
       inl (refl, c.in-Ok.ensures.evicts),
     )
 
@@ -19,7 +22,10 @@ returns-in-Err c =
     let none : c.args.self.now.left.items ≡ [] = grind (arith, common_steps, c.is_empty.ensures, c.if-not-is_empty.false) in
     taken_is c.args.self.now.left.items _ _ _ _ none (
       c.in-Err.field-0.leaves.items,
-      kept_told c.args.self.now.has_listener c.args.self.now.left.items c.in-Err.field-0.leaves.items
-          c.keep-in-Err.new.kept.items none c.keep-in-Err.ensures,
+      (
+        kept_told c.args.self.now.has_listener c.args.self.now.left.items c.in-Err.field-0.leaves.items
+            c.keep-in-Err.new.kept.items none c.keep-in-Err.ensures,
+        record { held = refl; fetches = c.in-Err.ensures.fetches; left = refl; listener = refl },
+      ),
       inr (c.refusal.ensures ∙ ap number_of c.in-Err.ensures.evicts.0, c.in-Err.ensures.evicts.1),
     )

@@ -1,3 +1,4 @@
+use Rattle.std.proofs.Common.{◌∙◌, refl}
 use Rattle.luffapricot_c.proofs.cache.ByteCache.get.Goals as goal
 
 pub returns-in-Ok-Some : goal.returns-in-Ok-Some
@@ -13,4 +14,10 @@ returns-in-Ok-Some c = record {
   );
   len_is = c.copy_value-len.ensures.len;
   filled_is = c.copy_value-len.ensures.copied;
+  rest = record {
+    held = refl;
+    fetches = c.drop_entry.ensures.fetches ∙ c.in-Ok-Some.ensures.fetches;
+    left = refl;
+    listener = refl;
+  };
 }

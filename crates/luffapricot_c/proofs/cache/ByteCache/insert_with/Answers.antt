@@ -1,7 +1,7 @@
 use Rattle.std.proofs.Common.{refl}
 use Rattle.luffapricot_c.specs.Calls.{CoreInserts}
 use Rattle.luffapricot_c.specs.declared.cache.ByteCache.{ByteCache}
-use Rattle.luffapricot_c.proofs.CallLemmas.{inserts_bytes, told_more}
+use Rattle.luffapricot_c.proofs.CallLemmas.{answers_waiting, inserts_bytes, told_more}
 use Rattle.luffapricot_c.proofs.Clones.{key_clone}
 use Rattle.luffapricot_c.proofs.cache.ByteCache.insert_with.Goals as goal
 
@@ -23,8 +23,10 @@ returns-clause-inserted c =
       value_is = (c.in_ok-copy.ensures.bytes, refl);
       leaves = went.more;
       inserts = went.so;
+      answered = answers_waiting c.in_ok-key.key made.result old new made.ensures.fetches;
       told = told_more c.args.self.now.has_listener c.args.self.now.left.items went.more made.new.leaves.items
           c.forget_left.new.left.items went.told c.forget_left.ensures;
+      rest = record { held = refl; fetches = refl; left = refl; listener = refl };
     } in
     inserts_bytes c.args.now c.args.hash c.args.key.now c.args.bytes.now c.args.weight c.args.properties made.result old
-    new did
+    new did refl

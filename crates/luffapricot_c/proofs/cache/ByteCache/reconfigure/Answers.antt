@@ -10,4 +10,5 @@ returns-in-Err c = record {
   wrong = λ n. c.refusal.ensures ∙ ap number_of (same_reason c.in-Err.error WrongPolicy _ refl (c.in-Err.ensures.wrong n));
   taken = λ t. c.refusal.ensures
       ∙ fault_is _ c.in-Err.error _ refl (c.in-Err.ensures.accepted t).1 (c.in-Err.ensures.refused t);
+  rest = record { held = refl; fetches = c.in-Err.ensures.fetches; left = refl; listener = refl };
 }

@@ -9,6 +9,7 @@ returns-then-not-self c =
     (sym c.try_remove.ensures.value ∙ c.in-Some.is) (sym c.into_held.ensures ∙ c.in-Entry.is)
     (record { owned = c.drop_entry-leave.ensures.owned; foreign = c.drop_entry-leave.ensures.foreign })
     (untold _ _ _ _ _ c.if-not-self.true c.try_remove.ensures.updates) refl
+    record { held = refl; fetches = c.drop_entry-leave.ensures.fetches; left = refl; listener = refl }
 
 pub returns-in-Some-leave : goal.returns-in-Some-leave
 returns-in-Some-leave c =
@@ -20,4 +21,4 @@ returns-in-Some-leave c =
     (c.insert_reserved.ensures.key ∙ c.in-Some.ensures.key_is_next) c.try_remove.ensures.updates
     (subst (λ h. Updates c.try_remove.new.self c.insert_reserved.new.self c.insert_reserved.result (Some (record { held = h })))
     c.new.ensures c.insert_reserved.ensures.updates)))
-    refl
+    refl record { held = refl; fetches = c.drop_entry-leave.ensures.fetches; left = refl; listener = refl }

@@ -1,4 +1,4 @@
-use Rattle.std.proofs.Common.{◌∙◌, ◌++◌, ◌∷◌, [], ap, if◌then◌else◌}
+use Rattle.std.proofs.Common.{◌∙◌, ◌++◌, ◌∷◌, [], ap, if◌then◌else◌, refl}
 use Rattle.foyer_policy.specs.declared.types.Event.TheVariants.{Remove}
 use Rattle.luffapricot_c.proofs.CallLemmas.{holds_same}
 use Rattle.luffapricot_c.proofs.cache.ByteCache.remove.Goals as goal
@@ -13,4 +13,5 @@ returns-in-Ok-Some c = record {
   told = c.forget_left.ensures ∙ ap (λ ls. if c.args.self.now.has_listener then ls else [])
       (c.push_reserved.ensures.items
       ∙ ap (λ ls. ls ++ (Remove, c.in-Ok-Some.left) ∷ []) c.in_ok-reserve-2.ensures.items);
+  rest = record { held = refl; fetches = c.in-Ok-Some.ensures.fetches; left = refl; listener = refl };
 }
