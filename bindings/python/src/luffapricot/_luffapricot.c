@@ -18,25 +18,36 @@
 
 typedef struct node {
     PyObject_HEAD PyObject *key;
-    PyObject *value; /* NULL while it is being made */
+    PyObject *value; /* NULL before the first insert */
     uint64_t hash;
-    size_t records;      /* how many records of it the cache has: 2 for a moment when one replaces another */
-    size_t uses;         /* calls that use it */
-    unsigned long maker; /* the thread that makes its value, or 0 */
-    struct node *next;   /* the next one of those that are to leave the dict */
+    size_t records;    /* how many records of it the cache has: 2 for a moment when one replaces another */
+    size_t uses;       /* calls that use it */
+    struct node *next; /* the next one of those that are to leave the dict */
     char is_leaving;
     char is_out; /* of the dict */
 } node;
+
+/* A missing value that one thread makes, and for which others may wait. */
+typedef struct fetch {
+    struct fetch *next; /* the next open one of the cache */
+    node *node;
+    unsigned long maker;      /* the thread that makes the value */
+    PyThread_type_lock ended; /* held while it is open; NULL if nobody has waited */
+    size_t callers;           /* who makes it or waits */
+    PyObject *value;          /* what it ended with; NULL if no value was made */
+    char is_open;
+} fetch;
 
 typedef struct {
     PyObject_HEAD PyObject *nodes; /* dict: key to node */
     luffa_cache *cache;
     node *leaving;
+    fetch *fetches;    /* the open ones */
     PyObject *weigher; /* or NULL */
     uint64_t ttl;      /* nanoseconds, or 0 */
     uint64_t hits;
     uint64_t misses;
-    size_t running;  /* calls that let other threads run meanwhile */
+    size_t running;  /* functions that make a value now */
     char has_expiry; /* a record may expire, so the time matters */
 } cache_object;
 
@@ -48,17 +59,6 @@ struct id {
 
 static PyObject *refusal;  /* luffapricot.Error */
 static PyObject *dict_pop; /* dict.pop */
-
-/* The state of this thread while it has given up the lock of the interpreter, or NULL. */
-static _Thread_local PyThreadState *released;
-
-static void let_others_run(void) { released = PyEval_SaveThread(); }
-
-static void run_alone(void) {
-    PyThreadState *state = released;
-    released = NULL;
-    PyEval_RestoreThread(state);
-}
 
 static int node_traverse(node *self, visitproc visit, void *arg) {
     Py_VISIT(self->key);
@@ -119,18 +119,12 @@ static void end_record(cache_object *self, node *it) {
 
 static void hear(void *context, int event, const void *key, size_t key_len, const void *value, size_t value_len) {
     struct id id;
-    int is_released = released != NULL;
     (void)event;
     (void)key_len;
     (void)value;
     (void)value_len;
-    if (is_released)
-        run_alone();
-    assert(PyGILState_Check());
     memcpy(&id, key, sizeof id);
     end_record(context, id.node);
-    if (is_released)
-        let_others_run();
 }
 
 /* Removes the record of a node that no lookup can find any more. */
@@ -204,23 +198,27 @@ static uint64_t now_of(const cache_object *self) {
     return (uint64_t)time.tv_sec * 1000000000u + (uint64_t)time.tv_nsec;
 }
 
+/* The value of a node that a lookup finds (a new reference), or NULL; then an exception may be set. */
+static PyObject *touch(cache_object *self, node *it) {
+    struct id id = id_of(it);
+    luffa_status status = luffa_touch(self->cache, now_of(self), &id, sizeof id);
+    if (status == LUFFA_OK) {
+        self->hits++;
+        Py_INCREF(it->value);
+        return it->value;
+    }
+    return status == LUFFA_MISSING ? NULL : refused(status);
+}
+
 /* Looks a key up, which counts as a use. Returns the value (a new reference), or NULL; then an exception may be set. */
 static PyObject *look_up(cache_object *self, PyObject *key) {
+    PyObject *value = NULL;
     node *it = (node *)PyDict_GetItemWithError(self->nodes, key);
-    if (it != NULL && it->value != NULL && self->cache != NULL) {
-        struct id id = id_of(it);
-        luffa_status status = luffa_touch(self->cache, now_of(self), &id, sizeof id);
-        if (status == LUFFA_OK) {
-            self->hits++;
-            Py_INCREF(it->value);
-            return it->value;
-        }
-        if (status != LUFFA_MISSING)
-            return refused(status);
-    }
-    if (!PyErr_Occurred())
+    if (it != NULL && self->cache != NULL)
+        value = touch(self, it);
+    if (value == NULL && !PyErr_Occurred())
         self->misses++;
-    return NULL;
+    return value;
 }
 
 static node *new_node(PyObject *key, Py_hash_t hash) {
@@ -232,7 +230,6 @@ static node *new_node(PyObject *key, Py_hash_t hash) {
     it->value = NULL;
     it->hash = (uint64_t)hash;
     it->records = it->uses = 0;
-    it->maker = 0;
     it->is_leaving = it->is_out = 0;
     PyObject_GC_Track(it);
     return it;
@@ -288,6 +285,48 @@ static int weigh(const cache_object *self, PyObject *key, PyObject *value, size_
     return status;
 }
 
+/* The open fetch of a node, or NULL. */
+static fetch *fetch_of(const cache_object *self, const node *it) {
+    fetch *open = self->fetches;
+    while (open != NULL && open->node != it)
+        open = open->next;
+    return open;
+}
+
+/* Ends a fetch, and wakes those who wait for it. */
+static void end_fetch(cache_object *self, fetch *open, PyObject *value) {
+    fetch **at = &self->fetches;
+    while (*at != open)
+        at = &(*at)->next;
+    *at = open->next;
+    Py_XINCREF(value);
+    open->value = value;
+    open->is_open = 0;
+    if (open->ended != NULL)
+        PyThread_release_lock(open->ended);
+}
+
+/* Inserts a value, which ends the fetch of its key. Returns 0, or -1 and an exception. */
+static int put(cache_object *self, node *it, PyObject *value, size_t weight, uint64_t ttl) {
+    struct id id = id_of(it);
+    uint64_t expires = expiry_of(self, ttl);
+    add_record(it);
+    luffa_status status = luffa_insert(self->cache, now_of(self), &id, sizeof id, NULL, 0, weight, expires);
+    if (status != LUFFA_OK) {
+        end_record(self, it);
+        refused(status);
+        return -1;
+    }
+    fetch *open = fetch_of(self, it);
+    if (open != NULL)
+        end_fetch(self, open, value);
+    PyObject *old = it->value;
+    Py_INCREF(value);
+    it->value = value;
+    Py_XDECREF(old);
+    return 0;
+}
+
 /* Inserts a value, with this weight if there is one. Returns 0, or -1 and an exception. */
 static int insert(cache_object *self, PyObject *key, PyObject *value, const size_t *given, uint64_t ttl) {
     size_t weight = 1;
@@ -298,22 +337,9 @@ static int insert(cache_object *self, PyObject *key, PyObject *value, const size
     node *it = use_node(self, key);
     if (it == NULL)
         return -1;
-    struct id id = id_of(it);
-    uint64_t expires = expiry_of(self, ttl);
-    add_record(it);
-    luffa_status status = luffa_insert(self->cache, now_of(self), &id, sizeof id, NULL, 0, weight, expires);
-    PyObject *old = NULL;
-    if (status == LUFFA_OK) {
-        Py_INCREF(value);
-        old = it->value;
-        it->value = value;
-    } else {
-        end_record(self, it);
-        refused(status);
-    }
+    int status = put(self, it, value, weight, ttl);
     done_with(self, it);
-    Py_XDECREF(old);
-    return status == LUFFA_OK ? 0 : -1;
+    return status;
 }
 
 /* Seconds, as an int or a float above 0, in nanoseconds; None and NULL are 0. Returns -1 and an exception for others.
@@ -520,40 +546,88 @@ static PyObject *cache_insert(cache_object *self, PyObject *args, PyObject *word
     Py_RETURN_NONE;
 }
 
-/* What make() needs to make a value without the lock of the interpreter. */
-struct making {
-    cache_object *self;
-    node *node;
-    PyObject *make;
-    int has_run;
-    int has_failed;
-};
+/* A call is done with a fetch. */
+static void leave_fetch(fetch *it) {
+    if (--it->callers > 0)
+        return;
+    if (it->ended != NULL)
+        PyThread_free_lock(it->ended);
+    Py_XDECREF(it->value);
+    PyMem_Free(it);
+}
 
-static int make_value(void *context, const void *key, size_t key_len, luffa_made *made) {
-    struct making *making = context;
-    node *it = making->node;
-    (void)key;
-    (void)key_len;
-    run_alone();
-    making->has_run = 1;
-    it->maker = PyThread_get_thread_ident();
-    PyObject *value = PyObject_CallFunctionObjArgs(making->make, it->key, NULL);
-    if (value != NULL && weigh(making->self, it->key, value, &made->weight) < 0)
-        Py_CLEAR(value);
-    it->maker = 0;
-    making->has_failed = value == NULL;
-    if (value != NULL) {
-        PyObject *old = it->value;
-        it->value = value;
-        add_record(it);
-        made->value = "made"; /* by which its record differs from that of an insert */
-        made->value_len = 4;
-        made->expires = expiry_of(making->self, making->self->ttl);
-        made->now = now_of(making->self);
-        Py_XDECREF(old);
+/* Waits for the end of a fetch, whose lock it takes for a moment. Returns 0, or -1 and an exception, such as one of a
+ * signal that came meanwhile. */
+static int wait_for_end(fetch *it) {
+    if (it->ended == NULL) {
+        if ((it->ended = PyThread_allocate_lock()) == NULL) {
+            PyErr_NoMemory();
+            return -1;
+        }
+        PyThread_acquire_lock(it->ended, WAIT_LOCK);
     }
-    let_others_run();
-    return value == NULL;
+    for (;;) {
+        PyLockStatus status;
+        Py_BEGIN_ALLOW_THREADS;
+        status = PyThread_acquire_lock_timed(it->ended, -1, 1);
+        Py_END_ALLOW_THREADS;
+        if (status == PY_LOCK_ACQUIRED)
+            break;
+        if (PyErr_CheckSignals() < 0)
+            return -1;
+    }
+    PyThread_release_lock(it->ended);
+    return 0;
+}
+
+/* Waits for a value that another thread makes. Returns a new reference, or NULL and an exception. */
+static PyObject *wait_for_value(cache_object *self, fetch *it) {
+    if (it->maker == PyThread_get_thread_ident()) {
+        PyErr_SetString(PyExc_RuntimeError, "the function that makes a value asks for its own key");
+        return NULL;
+    }
+    it->callers++;
+    int status = wait_for_end(it);
+    PyObject *value = it->value;
+    Py_XINCREF(value);
+    if (status == 0) {
+        self->hits += value != NULL;
+        self->misses += value == NULL;
+        if (value == NULL)
+            refused(LUFFA_CANCELLED);
+    } else {
+        Py_CLEAR(value);
+    }
+    leave_fetch(it);
+    return value;
+}
+
+/* Makes the value of a node. If its key is inserted meanwhile, that value is the result. Returns a new reference, or
+ * NULL and an exception. */
+static PyObject *make_value(cache_object *self, node *it, PyObject *make) {
+    fetch *open = PyMem_Calloc(1, sizeof *open);
+    if (open == NULL)
+        return PyErr_NoMemory();
+    *open =
+        (fetch){.next = self->fetches, .node = it, .maker = PyThread_get_thread_ident(), .callers = 1, .is_open = 1};
+    self->fetches = open;
+    self->misses++;
+    self->running++; /* so that nobody closes the cache */
+    size_t weight = 1;
+    PyObject *value = PyObject_CallFunctionObjArgs(make, it->key, NULL);
+    if (value != NULL && open->is_open && weigh(self, it->key, value, &weight) < 0)
+        Py_CLEAR(value);
+    self->running--;
+    if (value != NULL && open->is_open && put(self, it, value, weight, self->ttl) < 0)
+        Py_CLEAR(value);
+    if (open->is_open)
+        end_fetch(self, open, NULL);
+    if (value != NULL) {
+        Py_INCREF(open->value);
+        Py_SETREF(value, open->value);
+    }
+    leave_fetch(open);
+    return value;
 }
 
 static PyObject *cache_get_or_insert(cache_object *self, PyObject *const *args, Py_ssize_t count) {
@@ -566,34 +640,11 @@ static PyObject *cache_get_or_insert(cache_object *self, PyObject *const *args, 
     node *it = use_node(self, args[0]);
     if (it == NULL)
         return NULL;
-    if (it->maker == PyThread_get_thread_ident()) {
-        PyErr_SetString(PyExc_RuntimeError, "the function that makes a value asks for its own key");
-        done_with(self, it);
-        return NULL;
+    PyObject *value = touch(self, it);
+    if (value == NULL && !PyErr_Occurred()) {
+        fetch *open = fetch_of(self, it);
+        value = open != NULL ? wait_for_value(self, open) : make_value(self, it, args[1]);
     }
-    struct id id = id_of(it);
-    struct making making = {self, it, args[1], 0, 0};
-    luffa_entry entry = {0};
-    luffa_cache *cache = self->cache;
-    luffa_status status;
-    do { /* whoever waited for a call that failed tries by itself */
-        uint64_t now = now_of(self);
-        self->running++; /* so that nobody closes the cache */
-        let_others_run();
-        status = luffa_get_or_insert(cache, now, &id, sizeof id, make_value, &making, &entry);
-        run_alone();
-        self->running--;
-    } while (status == LUFFA_CANCELLED && !making.has_run);
-    /* An insert of the key meanwhile ends the fetch with its own record. */
-    if (making.has_run && !making.has_failed && (status != LUFFA_OK || entry.value_len == 0))
-        end_record(self, it);
-    luffa_release(&entry);
-    self->hits += status == LUFFA_OK && !making.has_run;
-    self->misses += making.has_run;
-    PyObject *value = making.has_failed || status != LUFFA_OK ? NULL : it->value;
-    Py_XINCREF(value);
-    if (value == NULL && !making.has_failed)
-        refused(status == LUFFA_CANCELLED ? LUFFA_NO_MEMORY : status);
     done_with(self, it);
     return value;
 }
@@ -698,7 +749,8 @@ static PyMethodDef cache_methods[] = {
      "seconds. None: as the cache has them; float('inf') never ends."},
     {"get_or_insert", (PyCFunction)(void (*)(void))cache_get_or_insert, METH_FASTCALL,
      "get_or_insert($self, key, make, /)\n--\n\nThe value of a key, which make(key) makes if it is missing. Of several "
-     "threads one makes it and the others wait; if it fails, the next one tries."},
+     "threads one makes it and the others wait; if it fails, they get Error (F15). If the key is inserted meanwhile, "
+     "that value is the result for all."},
     {"pop", (PyCFunction)(void (*)(void))cache_pop, METH_FASTCALL, "Removes a key and returns its value."},
     {"clear", (PyCFunction)cache_clear, METH_NOARGS, "clear($self)\n--\n\nRemoves all keys."},
     {"resize", (PyCFunction)cache_resize, METH_O,
