@@ -27,11 +27,11 @@ def compile_extension(folder: Path) -> Path:
         subprocess.run([sys.executable, HERE.parent / "build", "--out", OUT], check=True)
     made = folder / f"_{NAME}{sysconfig.get_config_var('EXT_SUFFIX')}"
     compiler = shlex.split(os.environ.get("CC", "cc"))
-    flags = ["-std=gnu11", "-O2", "-Wall", "-Wextra", "-fPIC", "-shared", "-pthread"]
+    flags = ["-std=gnu11", "-O2", "-Wall", "-Wextra", "-fPIC", "-shared", "-pthread", "-fvisibility=hidden"]
     flags += shlex.split(os.environ.get("CFLAGS", ""))
-    source = HERE / "src" / NAME / f"_{NAME}.c"
+    sources = sorted((HERE / "extension").glob("*.c"))
     paths = [f"-I{sysconfig.get_path('include')}", f"-I{OUT}"]
-    subprocess.run([*compiler, *flags, *paths, source, OUT / "libluffapricot.a", "-o", made], check=True)
+    subprocess.run([*compiler, *flags, *paths, *sources, OUT / "libluffapricot.a", "-o", made], check=True)
     return made
 
 

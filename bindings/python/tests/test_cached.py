@@ -7,8 +7,9 @@ import functools
 import pickle
 import random
 import unittest
+from typing import AsyncIterator
 
-from luffapricot import Cache, cached
+from luffapricot import S3Fifo, cached
 
 
 @cached
@@ -56,9 +57,6 @@ class Decorator(unittest.TestCase):
 
     def test_copies(self) -> None:
         self.assertEqual([pickle.loads(pickle.dumps(named)), copy.copy(named), copy.deepcopy([named])[0]], [named] * 3)
-        for call in (pickle.dumps, copy.copy, copy.deepcopy):
-            with self.assertRaises(TypeError):
-                call(Cache(1))
 
     def test_methods_and_exceptions(self) -> None:
         class Counter:
@@ -77,6 +75,36 @@ class Decorator(unittest.TestCase):
             with self.assertRaises(ValueError):
                 first.next(-1)
         self.assertEqual(first.count, 4)
+
+    def test_no_room(self) -> None:
+        for size in (0, -1, -(10**30)):
+            calls: list = []
+            function = cached(size)(calls.append)
+            for _ in range(3):
+                function(1)
+            self.assertEqual((calls, function.cache_info()), ([1] * 3, (0, 3, 0, 0)))
+            function.cache_clear()
+            self.assertEqual((function.cache_info(), function.cache_parameters()["maxsize"]), ((0, 0, 0, 0), 0))
+
+    def test_async_functions_are_refused(self) -> None:
+        async def waits() -> int:
+            return 1
+
+        async def yields() -> AsyncIterator[int]:
+            yield 1
+
+        for function in (waits, yields, functools.partial(waits)):
+            with self.assertRaisesRegex(TypeError, "async"):
+                cached(function)
+
+    def test_policy_and_timer(self) -> None:
+        time_now = [1]
+        function = cached(10, policy=S3Fifo(small=0.5), ttl=5, timer=lambda: time_now[0])(lambda number: [number])
+        first = function(1)
+        self.assertIs(function(1), first)
+        time_now[0] = 6
+        self.assertIsNot(function(1), first)
+        self.assertEqual(function.cache_parameters()["policy"], S3Fifo(small=0.5))
 
     def test_recursion(self) -> None:
         @cached(1000)

@@ -1,15 +1,16 @@
-"""A cache as a mapping, its capacity, weights and times to live."""
+"""A cache as a mapping."""
 
 from __future__ import annotations
 
+import copy
+import pickle
 import random
-import sys
 import time
 import unittest
 import weakref
 
 import luffapricot
-from luffapricot import Cache
+from luffapricot import Cache, S3Fifo, cached
 from support import POLICIES, Value
 
 
@@ -53,6 +54,111 @@ class Mapping(unittest.TestCase):
         self.assertNotIn(101, cache)  # the look of the items was a use of 100 alone
         self.assertIn(100, cache)
 
+    def test_popitem(self) -> None:
+        for policy in POLICIES:
+            cache = Cache(100, policy)
+            cache.update(zip("abc", range(3)))
+            cache["a"], cache["b"]
+            cache["a"] = 3
+            order = [("b", 1), ("c", 2), ("a", 3)] if policy != "lru" else [("c", 2), ("b", 1), ("a", 3)]
+            self.assertEqual(list(cache.items()), order)
+            self.assertEqual([cache.popitem() for _ in range(3)], order)
+            with self.assertRaises(KeyError):
+                cache.popitem()
+            self.assertEqual((len(cache), cache.stats().usage, list(cache)), (0, 0, []))
+
+    def test_popitem_of_many(self) -> None:
+        took = []
+        for size in (2000, 32000):
+            cache = Cache(size, "lru", shards=2)
+            cache.update(zip(range(size), range(size)))
+            begun = time.thread_time()
+            taken = [cache.popitem() for _ in range(len(cache))]
+            took.append(time.thread_time() - begun)
+            self.assertEqual((taken, len(cache)), ([(key, key) for key, _ in taken], 0))
+        self.assertLess(took[1], 100 * took[0])  # 256 if each took as long as there are keys
+
+    def test_the_first_of_an_iteration_is_evicted_next(self) -> None:
+        random.seed(7)
+        for policy in ("fifo", "lru"):
+            cache = Cache(20, policy)
+            for _ in range(2000):
+                key, before = random.randrange(40), list(cache)
+                if key in cache:
+                    self.assertEqual(cache.get(key), key)
+                    continue
+                cache[key] = key
+                self.assertEqual([it for it in before if it not in cache], before[:1] if len(before) == 20 else [])
+
+    def test_keys_are_hashed_once(self) -> None:
+        class Counted:
+            hashes = 0
+
+            def __init__(self, name: str) -> None:
+                self.name = name
+
+            def __hash__(self) -> int:
+                Counted.hashes += 1
+                return 7
+
+            def __eq__(self, other: Counted) -> bool:
+                return self.name == other.name
+
+        for call in (
+            lambda cache, key: cache.get(key),
+            lambda cache, key: cache.__setitem__(key, 1),
+            lambda cache, key: cache.get_or_insert(key, lambda _: 1),
+            lambda cache, key: key in cache,
+            lambda cache, key: cache.pop(key, None),
+            lambda cache, key: cache.peek(key),
+            lambda cache, key: cached(5)(lambda _: 1)(key),
+        ):
+            cache = Cache(5, "lru")
+            for key in ("missing", "missing", "a", "b"):
+                cache[Counted("a")] = 0
+                Counted.hashes = 0
+                call(cache, Counted(key))
+                self.assertEqual(Counted.hashes, 1)
+            Counted.hashes = 0
+            cache.update(zip(range(20), range(20)))  # what is evicted isn't hashed again
+            self.assertEqual(Counted.hashes, 0)
+
+    def test_words(self) -> None:
+        cache = Cache(capacity=10)
+        cache.insert(key="a", value=1, weight=2, ttl=None)
+        cache.insert("b", value=2)
+        found = cache.get(key="a", default=0), cache.get("c", default=3), cache.peek("c", default=4)
+        self.assertEqual(found, (1, 3, 4))
+        self.assertEqual((cache.setdefault(key="c", default=5), cache.pop(key="c", default=6)), (5, 5))
+        self.assertEqual(cache.get_or_insert(make=str, key=7), "7")
+        wrong: list = [lambda: cache.get(), lambda: cache.get("a", 1, 2), lambda: cache.get("a", key="a")]
+        wrong += [lambda: cache.get("a", other=1), lambda: cache.insert("a"), lambda: cache.pop(default=1)]
+        for call in wrong:
+            with self.assertRaises(TypeError):
+                call()
+
+    def test_peek_is_no_use(self) -> None:
+        cache = Cache(2, "lru")
+        cache.update(a=1, b=2)
+        self.assertEqual((cache.peek("a"), cache.peek("c"), cache.peek("c", 3)), (1, None, 3))
+        self.assertEqual(cache.stats()[:2], (0, 0))
+        cache["c"] = 3
+        self.assertEqual(list(cache), ["b", "c"])
+
+    def test_missing(self) -> None:
+        class Doubling(Cache):
+            def __missing__(self, key: int) -> int:
+                if key < 0:
+                    raise LookupError(key)
+                self[key] = 2 * key
+                return self[key]
+
+        cache = Doubling(10)
+        self.assertEqual((cache[1], cache.get(2), cache.pop(2, None), 2 in cache, list(cache)), (2, None, None, False, [1]))
+        self.assertEqual((cache.setdefault(3, 4), cache[3]), (4, 4))
+        with self.assertRaises(LookupError):
+            cache[-1]
+
     def test_missing_keys_are_told(self) -> None:
         cache = Cache(10)
         for key in ("a", (1, 2), ()):
@@ -60,14 +166,6 @@ class Mapping(unittest.TestCase):
                 with self.assertRaises(KeyError) as raised:
                     call()
                 self.assertEqual(raised.exception.args, (key,))
-
-    def test_large_numbers(self) -> None:
-        cache = Cache(2**64 - 1, "lru")
-        cache.insert("a", 1, weight=2**64 - 1, ttl=float("inf"))
-        self.assertEqual((cache["a"], cache.stats()), (1, (1, 0, 2**64 - 1, 1, 2**64 - 1)))
-        for call in (lambda: Cache(2**64), lambda: cache.insert("b", 1, weight=2**64), lambda: cache.resize(-1)):
-            with self.assertRaises(OverflowError):
-                call()
 
     def test_keys_are_compared_as_in_a_dict(self) -> None:
         cache = Cache(10)
@@ -81,42 +179,6 @@ class Mapping(unittest.TestCase):
             with self.assertRaises(TypeError):
                 cache.get(unhashable)
 
-    def test_capacity(self) -> None:
-        for policy in POLICIES:
-            cache = Cache(10, policy)
-            for key in range(1000):
-                cache[key] = key
-                self.assertLessEqual(len(cache), 10)
-                self.assertEqual(cache[key], key)
-            self.assertEqual(len(list(cache)), len(cache))
-            cache.resize(3)
-            self.assertLessEqual(len(cache), 3)
-            cache.insert("heavy", 1, weight=3)
-            self.assertEqual((list(cache), cache.stats().usage), (["heavy"], 3))
-
-    def test_weigher(self) -> None:
-        asked: list = []
-
-        def weigher(key: str, value: str) -> int:
-            asked.append((key, value))
-            return len(value) if value else cache.close()
-
-        before = sys.getrefcount(weigher)
-        cache = Cache(10, "lru", weigher=weigher)
-        cache["a"] = "xxx"
-        self.assertEqual((cache.get_or_insert("b", lambda _: "xxxxx"), cache.stats().usage), ("xxxxx", 8))
-        cache.insert("c", "", weight=1)
-        self.assertEqual((cache.stats().usage, asked), (9, [("a", "xxx"), ("b", "xxxxx")]))
-        cache["d"] = "xxxxxx"
-        self.assertEqual(list(cache), ["c", "d"])
-        for call in (lambda: cache.get_or_insert("e", lambda _: ""), lambda: cache.__setitem__("e", "")):
-            with self.assertRaises((RuntimeError, TypeError)):
-                call()  # a weigher that closes the cache, and returns no number
-        with self.assertRaises(TypeError):
-            Cache(1, weigher=3)
-        del cache
-        self.assertEqual(sys.getrefcount(weigher), before)
-
     def test_bad_arguments(self) -> None:
         for words in ((-1,), ("x",), (1, "unknown"), (1, "lru", 0), (1, "lru", 1, 0), (1, "lru", 1, float("nan"))):
             with self.assertRaises((ValueError, TypeError, OverflowError)):
@@ -128,33 +190,24 @@ class Mapping(unittest.TestCase):
         with self.assertRaises(RuntimeError):
             cache.__init__(5)
 
-    def test_is_lru(self) -> None:
-        cache = Cache(100, "lru")
-        model: dict = {}
-        random.seed(1)
-        for _ in range(20000):
-            key = random.randrange(150)
-            value = cache.get(key)
-            self.assertEqual(value is not None, key in model)
-            if value is None:
-                cache[key] = key + 1
-            else:
-                del model[key]
-            model[key] = True
-            if len(model) > 100:
-                del model[next(iter(model))]
+    def test_hashes_that_differ_above_bit_32(self) -> None:
+        for policy in POLICIES:
+            cache = Cache(5000, policy, shards=17)
+            keys = [number << 40 for number in range(1, 1001)]
+            cache.update(zip(keys, keys))
+            self.assertEqual([cache.get(key) for key in keys], keys)
+            self.assertEqual([cache.get(key + 1) for key in keys], [None] * len(keys))
+            same = [number * (2**61 - 1) for number in range(50)]  # equal hashes
+            cache.update(zip(same, same))
+            self.assertEqual([cache.pop(key, None) for key in reversed(same)], same[::-1])
 
-    def test_time_to_live(self) -> None:
-        cache = Cache(10, ttl=0.3)
-        cache["a"] = 1
-        cache.insert("b", 2, ttl=20)
-        cache["c"] = 3
-        self.assertEqual((cache["a"], cache["b"]), (1, 2))
-        time.sleep(0.35)
-        self.assertEqual((cache.get("a"), "a" in cache, cache["b"], list(cache)), (None, False, 2, ["b"]))
-        self.assertEqual((len(cache), cache.pop("c", None), cache.pop("b"), len(cache)), (3, None, 2, 1))
-        cache["a"] = 3
-        self.assertEqual(cache["a"], 3)
+    def test_copies(self) -> None:
+        cache = Cache(10, S3Fifo(small=0.5), weigher=max, ttl=60)
+        cache.update({3: 1, 2: 2})
+        for it in (pickle.loads(pickle.dumps(cache)), copy.copy(cache), copy.deepcopy(cache)):
+            self.assertEqual((list(it.items()), it.stats(), type(it)), ([(3, 1), (2, 2)], (0, 0, 5, 2, 10), Cache))
+            it[1] = 1
+        self.assertEqual(len(cache), 2)
 
     def test_close(self) -> None:
         value = Value()
