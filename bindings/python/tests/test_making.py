@@ -4,7 +4,6 @@ from __future__ import annotations
 
 import functools
 import random
-import sys
 import threading
 import time
 import unittest
@@ -166,12 +165,17 @@ class Making(unittest.TestCase):
             cache.get_or_insert("a", lambda key: cache.get_or_insert(key, id))
         self.assertEqual(cache.get_or_insert("a", lambda _: cache.get_or_insert("b", lambda _: 2)), 2)
 
-    @unittest.skipIf(sys.version_info >= (3, 12), "a module of one phase is for the main interpreter")
     def test_subinterpreters(self) -> None:
         inner = "from luffapricot import Cache; cache = Cache(5); cache.update(zip(range(99), range(99)))"
-        inner += "; print(len(cache), cache.get_or_insert('a', ord))"
-        text = f"import _xxsubinterpreters as them; them.run_string(them.create(), {inner!r})"
-        self.assertEqual(run_alone(text), "5 97\n")
+        inner += "; print(len(cache), cache.get_or_insert('a', ord), flush=True)"
+        lines = [
+            "try: import _interpreters as them",
+            "except ImportError: import _xxsubinterpreters as them",
+            "import luffapricot",
+            f"for _ in range(2): made = them.create(); them.run_string(made, {inner!r}); them.destroy(made)",
+            "print(luffapricot.Cache(1))",
+        ]
+        self.assertEqual(run_alone("\n".join(lines)), "5 97\n5 97\n<Cache of 0 entries>\n")
 
     def test_threads_that_wait_at_the_end(self) -> None:
         lines = [
