@@ -84,6 +84,11 @@ typedef struct {
     char is_lru;
 } cache_object;
 
+/* Whether a lookup would find a node. */
+static inline int is_there(const cache_object *self, node *it, uint64_t now) {
+    return luffa_contains(self->cache, now, &it, sizeof it) == LUFFA_OK;
+}
+
 /* table.c: finding nodes. */
 int find(cache_object *self, PyObject *key, Py_hash_t hash, node **found);
 int table_begin(table *self);
@@ -110,7 +115,13 @@ PyObject *cache_subscript(cache_object *self, PyObject *key);
 int cache_ass_subscript(cache_object *self, PyObject *key, PyObject *value);
 int cache_contains(cache_object *self, PyObject *key);
 Py_ssize_t cache_length(cache_object *self);
+PyObject *ended(cache_object *self, luffa_status status);
 extern PyMethodDef cache_methods[];
+
+/* walks.c: the calls that go over the list of nodes. */
+PyObject *cache_popitem(cache_object *self, PyObject *unused);
+PyObject *cache_expire(cache_object *self, PyObject *unused);
+PyObject *cache_item_list(cache_object *self, PyObject *unused);
 
 /* cache.c: how a cache is made and ends. */
 int free_records(cache_object *self);

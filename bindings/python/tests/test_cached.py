@@ -106,6 +106,20 @@ class Decorator(unittest.TestCase):
         self.assertIsNot(function(1), first)
         self.assertEqual(function.cache_parameters()["policy"], S3Fifo(small=0.5))
 
+    def test_the_same_call_meanwhile(self) -> None:
+        @cached(3, policy="lru")
+        def function(number: int) -> list:
+            if number == 9 and not inner:
+                inner.append(function(number))
+            return [number]
+
+        inner: list = []
+        for number in range(3):
+            function(number)
+        self.assertEqual(function(9), [9])
+        self.assertIs(function(9), inner[0])  # what was kept first stays, and no other result leaves for it
+        self.assertEqual(function.cache_info(), (1, 5, 3, 3))
+
     def test_recursion(self) -> None:
         @cached(1000)
         def fibonacci(number: int) -> int:
