@@ -110,7 +110,8 @@ class Decorator(unittest.TestCase):
         @cached(3, policy="lru")
         def function(number: int) -> list:
             if number == 9 and not inner:
-                inner.append(function(number))
+                inner.append(None)
+                inner[0] = function(number)
             return [number]
 
         inner: list = []
