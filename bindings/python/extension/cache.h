@@ -90,7 +90,7 @@ static inline int is_there(const cache_object *self, node *it, uint64_t now) {
 }
 
 /* table.c: finding nodes. */
-int find(cache_object *self, PyObject *key, Py_hash_t hash, node **found);
+int search(cache_object *self, PyObject *key, Py_hash_t hash, node **found);
 int table_begin(table *self);
 int table_add(table *self, node *it);
 void table_remove(table *self, const node *it);
@@ -129,13 +129,33 @@ int free_records(cache_object *self);
 /* reading.c: arguments, times and refusals. */
 PyObject *refused(const cache_object *self, luffa_status status);
 int is_closed(const cache_object *self);
-int read_time(cache_object *self, uint64_t *now);
+int ask_time(cache_object *self, uint64_t *now);
 int read_size(PyObject *number, size_t *size);
 int read_ttl(PyObject *seconds, uint64_t *ttl);
 int read_policy(const char *name, PyObject *changes, luffa_config *made);
 int read_words(const char *call, const char *const *names, Py_ssize_t least, Py_ssize_t most, PyObject *const *args,
                Py_ssize_t count, PyObject *words, PyObject **found);
 int weigh(const cache_object *self, PyObject *key, PyObject *value, size_t *weight);
+
+/* The first place where the node of a hash may be. */
+static inline size_t place_of(const table *self, Py_hash_t hash) {
+    uint64_t spread = (uint64_t)hash * 0x9E3779B97F4A7C15u;
+    return (spread ^ spread >> 32) & self->mask;
+}
+
+/* Finds the node of a key, or NULL. Returns 0, or -1 and an exception. It may run Python code, but none after the look
+ * at the last node. */
+static inline int find(cache_object *self, PyObject *key, Py_hash_t hash, node **found) {
+    *found = self->table.places[place_of(&self->table, hash)];
+    return *found == NULL || (*found)->key == key ? 0 : search(self, key, hash, found);
+}
+
+/* The time in nanoseconds, 0 while no record may expire. Returns 0, or -1 and an exception, also if the cache is
+ * closed. It may run Python code. */
+static inline int read_time(cache_object *self, uint64_t *now) {
+    *now = 0;
+    return self->has_expiry || self->cache == NULL ? ask_time(self, now) : 0;
+}
 
 extern PyType_Spec cache_spec;
 extern PyType_Spec cached_spec;

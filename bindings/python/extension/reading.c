@@ -37,11 +37,8 @@ static int ask_timer(PyObject *timer, uint64_t *now) {
     return 0;
 }
 
-/* The time in nanoseconds, 0 while no record may expire. Returns 0, or -1 and an exception, also if the cache is
- * closed. It may run Python code. */
-int read_time(cache_object *self, uint64_t *now) {
+int ask_time(cache_object *self, uint64_t *now) {
     struct timespec time;
-    *now = 0;
     if (self->has_expiry && self->timer == NULL) {
         clock_gettime(CLOCK_MONOTONIC, &time);
         *now = (uint64_t)time.tv_sec * 1000000000u + (uint64_t)time.tv_nsec;

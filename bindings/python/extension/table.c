@@ -3,11 +3,6 @@
 
 enum { LEAST = 8 };
 
-static inline size_t place_of(const table *self, Py_hash_t hash) {
-    uint64_t spread = (uint64_t)hash * 0x9E3779B97F4A7C15u;
-    return (spread ^ spread >> 32) & self->mask;
-}
-
 static void insert_into(table *self, node *it) {
     size_t at = place_of(self, it->hash);
     while (self->places[at] != NULL)
@@ -69,9 +64,8 @@ static int has_key(const table *self, const node *it, PyObject *key) {
     return is_equal >= 0 && self->moves != moves ? -2 : is_equal;
 }
 
-/* Finds the node of a key, or NULL. Returns 0, or -1 and an exception. It may run Python code, but none after the look
- * at the last node. */
-int find(cache_object *self, PyObject *key, Py_hash_t hash, node **found) {
+/* Finds as `find` does, if that isn't at the first look. */
+int search(cache_object *self, PyObject *key, Py_hash_t hash, node **found) {
     const table *nodes = &self->table;
     node *it;
     for (size_t at = place_of(nodes, hash); (it = nodes->places[at]) != NULL; at = (at + 1) & nodes->mask) {
