@@ -143,6 +143,15 @@ class Making(unittest.TestCase):
         cache.clear()
         self.assertEqual((watched[0](), watched[1](), len(cache)), (None, None, 0))
 
+    def test_an_insert_by_the_weigher(self) -> None:
+        def weigher(key: str, value: str) -> int:
+            if value == "made":
+                cache.insert(key, "newer", weight=2)
+            return 1
+
+        cache = Cache(10, weigher=weigher)
+        self.assertEqual((cache.get_or_insert("a", lambda _: "made"), cache["a"], cache.stats().usage), ("newer", "newer", 2))
+
     def test_signals_end_the_wait(self) -> None:
         lines = [
             "import _thread, os, signal, threading, time, luffapricot",

@@ -89,6 +89,27 @@ class References(unittest.TestCase):
         cache.clear()
         self.assertEqual(len(cache), 0)
 
+    def test_keys_whose_comparison_removes(self) -> None:
+        class Removing:
+            def __init__(self, name: str) -> None:
+                self.name = name
+
+            def __hash__(self) -> int:
+                return 1
+
+            def __eq__(self, other: Removing) -> bool:
+                if is_armed:
+                    is_armed.clear()
+                    cache.pop(first)
+                return self.name == other.name
+
+        for name in "bc":
+            cache, is_armed, first = Cache(10, "lru"), [], Removing("a")
+            for key in (first, Removing("b"), Removing("c")):
+                cache[key] = key.name
+            is_armed.append(1)
+            self.assertEqual((cache.get(Removing(name)), len(cache)), (name, 2))
+
     def test_keys_whose_comparison_closes(self) -> None:
         class Closing:
             def __hash__(self) -> int:
