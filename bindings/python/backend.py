@@ -1,60 +1,122 @@
-"""Makes the wheel of this package. It needs a C compiler and no other package, so `pip install` works without a network.
+"""Makes the wheel and the source distribution of this package (PEP 517). It needs a C compiler and no other package, so
+`pip install` works without a network.
 
-The extension is linked with ../out/libluffapricot.a, which ../build makes first if it isn't there."""
+The extension is linked with libluffapricot.a: that of the folder LUFFAPRICOT_OUT names, or that of a source distribution,
+or else that of the repository, where ../build first compiles what has changed. With the setting abi3=yes the wheel is for
+CPython 3.10 and all later ones, and calls of `cached` functions are a little slower."""
 
 from __future__ import annotations
 
 import base64
 import hashlib
+import io
 import os
+import re
 import shlex
 import subprocess
 import sys
 import sysconfig
+import tarfile
 import tempfile
 import zipfile
 from pathlib import Path
 
 HERE = Path(__file__).resolve().parent
-OUT = Path(os.environ.get("LUFFAPRICOT_OUT") or HERE.parent / "out")
-NAME, VERSION = "luffapricot", "0.1.0"
+PROJECT = (HERE / "pyproject.toml").read_text(encoding="utf-8")
+LIMITED = "0x030A0000"  # what the abi3 wheel may call
+NATIVE = ("libluffapricot.a", "luffapricot.h")
+SOURCES = ("pyproject.toml", "backend.py", "README.md", "extension/*.[ch]", "src/luffapricot/*.*", "tests/*.py")
+
+
+def field(name: str) -> str:
+    """A text of pyproject.toml."""
+    found = re.search(rf'(?m)^{name} = (?:{{ text = )?"(.*?)"', PROJECT)
+    if found is None:
+        raise KeyError(name)
+    return found.group(1)
+
+
+NAME, VERSION = field("name"), field("version")
 INFO = f"{NAME}-{VERSION}.dist-info"
 
 
-def compile_extension(folder: Path) -> Path:
+def native() -> Path:
+    """The folder of the native library and its header."""
+    given, build = os.environ.get("LUFFAPRICOT_OUT"), HERE.parent / "build"
+    if given or (HERE / "native").is_dir():
+        folder = Path(given or HERE / "native")
+        if not all((folder / it).exists() for it in NATIVE):
+            raise FileNotFoundError(f"{folder} has no {' and '.join(NATIVE)}")
+        return folder
+    subprocess.run([sys.executable, build], check=True)
+    return HERE.parent / "out"
+
+
+def compile_extension(folder: Path, is_limited: bool) -> Path:
     """Compiles the extension, and returns its file."""
-    if not (OUT / "libluffapricot.a").exists():
-        subprocess.run([sys.executable, HERE.parent / "build", "--out", OUT], check=True)
-    made = folder / f"_{NAME}{sysconfig.get_config_var('EXT_SUFFIX')}"
+    out = native()
+    made = folder / f"_{NAME}{'.abi3.so' if is_limited else sysconfig.get_config_var('EXT_SUFFIX')}"
     compiler = shlex.split(os.environ.get("CC", "cc"))
-    flags = ["-std=gnu11", "-O2", "-Wall", "-Wextra", "-fPIC", "-shared", "-pthread"]
+    flags = ["-std=gnu11", "-O2", "-Wall", "-Wextra", "-fPIC", "-shared", "-pthread", "-fvisibility=hidden"]
+    flags += [f"-DPy_LIMITED_API={LIMITED}"] if is_limited else []
     flags += shlex.split(os.environ.get("CFLAGS", ""))
-    source = HERE / "src" / NAME / f"_{NAME}.c"
-    paths = [f"-I{sysconfig.get_path('include')}", f"-I{OUT}"]
-    subprocess.run([*compiler, *flags, *paths, source, OUT / "libluffapricot.a", "-o", made], check=True)
+    paths = [f"-I{sysconfig.get_path('include')}", f"-I{out}"]
+    sources = sorted((HERE / "extension").glob("*.c"))
+    subprocess.run([*compiler, *flags, *paths, *sources, out / NATIVE[0], "-o", made], check=True)
     return made
 
 
-def build_wheel(wheel_directory: str, config_settings: object = None, metadata_directory: object = None) -> str:
-    """The call that pip makes (PEP 517)."""
+def metadata() -> bytes:
+    """What METADATA and PKG-INFO say."""
+    lines = [f"Metadata-Version: 2.1\nName: {NAME}\nVersion: {VERSION}\nSummary: {field('description')}"]
+    lines += [f"License: {field('license')}\nRequires-Python: {field('requires-python')}"]
+    lines += [f"Classifier: {it}" for it in re.findall(r'(?m)^    "(.* :: .*)",$', PROJECT)]
+    lines += ["Description-Content-Type: text/markdown", "", (HERE / "README.md").read_text(encoding="utf-8")]
+    return "\n".join(lines).encode()
+
+
+def licence() -> bytes:
+    """The licence, which is beside this file in a source distribution."""
+    return next(it for it in (HERE / "LICENSE", HERE.parents[1] / "LICENSE") if it.exists()).read_bytes()
+
+
+def build_wheel(wheel_directory: str, config_settings: dict | None = None, metadata_directory: object = None) -> str:
+    """The call that pip makes for a wheel."""
+    is_limited = (config_settings or {}).get("abi3") == "yes"
     python = f"cp{sys.version_info.major}{sys.version_info.minor}"
-    tag = f"{python}-{python}-{sysconfig.get_platform().replace('-', '_').replace('.', '_')}"
-    wheel = f"{NAME}-{VERSION}-{tag}.whl"
+    platform = sysconfig.get_platform().replace("-", "_").replace(".", "_")
+    tag = f"cp310-abi3-{platform}" if is_limited else f"{python}-{python}-{platform}"
     with tempfile.TemporaryDirectory() as folder:
         sources = [it for it in (HERE / "src" / NAME).iterdir() if it.suffix in (".py", ".pyi", ".typed")]
-        files = {f"{NAME}/{it.name}": it.read_bytes() for it in sources}
-        extension = compile_extension(Path(folder))
+        files = {f"{NAME}/{it.name}": it.read_bytes() for it in sorted(sources)}
+        extension = compile_extension(Path(folder), is_limited)
         files[f"{NAME}/{extension.name}"] = extension.read_bytes()
-    metadata = f"Metadata-Version: 2.1\nName: {NAME}\nVersion: {VERSION}\nRequires-Python: >=3.9\n"
-    files[f"{INFO}/METADATA"] = metadata.encode()
-    about = f"Wheel-Version: 1.0\nGenerator: {NAME}\nRoot-Is-Purelib: false\nTag: {tag}\n"
-    files[f"{INFO}/WHEEL"] = about.encode()
+    files[f"{INFO}/METADATA"] = metadata()
+    files[f"{INFO}/LICENSE"] = licence()
+    files[f"{INFO}/WHEEL"] = f"Wheel-Version: 1.0\nGenerator: {NAME}\nRoot-Is-Purelib: false\nTag: {tag}\n".encode()
     record = "".join(f"{name},{sum_of(data)},{len(data)}\n" for name, data in files.items())
     files[f"{INFO}/RECORD"] = f"{record}{INFO}/RECORD,,\n".encode()
+    wheel = f"{NAME}-{VERSION}-{tag}.whl"
     with zipfile.ZipFile(Path(wheel_directory) / wheel, "w", zipfile.ZIP_DEFLATED) as file:
         for name, data in files.items():
-            file.writestr(name, data)
+            about = zipfile.ZipInfo(name)  # of 1980, so that the same sources make the same wheel
+            about.external_attr = 0o644 << 16
+            file.writestr(about, data, zipfile.ZIP_DEFLATED)
     return wheel
+
+
+def build_sdist(sdist_directory: str, config_settings: dict | None = None) -> str:
+    """The call that pip makes for a source distribution, which has the native library too: nobody needs the kit."""
+    top, out = f"{NAME}-{VERSION}", native()
+    files = {str(it.relative_to(HERE)): it.read_bytes() for pattern in SOURCES for it in sorted(HERE.glob(pattern))}
+    files |= {f"native/{it}": (out / it).read_bytes() for it in NATIVE}
+    files |= {"LICENSE": licence(), "PKG-INFO": metadata()}
+    with tarfile.open(Path(sdist_directory) / f"{top}.tar.gz", "w:gz", format=tarfile.PAX_FORMAT) as file:
+        for name, data in files.items():
+            about = tarfile.TarInfo(f"{top}/{name}")
+            about.size = len(data)
+            file.addfile(about, io.BytesIO(data))
+    return f"{top}.tar.gz"
 
 
 def sum_of(data: bytes) -> str:

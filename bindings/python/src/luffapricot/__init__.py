@@ -10,13 +10,15 @@
 from __future__ import annotations
 
 import functools
+import inspect
 import sys
 from collections.abc import ItemsView, MutableMapping, ValuesView
-from typing import TYPE_CHECKING, Any, Callable, Generic, Iterator, NamedTuple, TypeVar, overload
+from typing import Any, Callable, Iterator, NamedTuple, TypeVar, overload
 
 from ._luffapricot import Error, _Cache, _Cached, version
+from ._policies import Fifo, Lfu, Lru, Policy, S3Fifo, Sieve, split
 
-__all__ = ["Cache", "CacheInfo", "Error", "Stats", "cached", "version"]
+__all__ = ["Cache", "CacheInfo", "Error", "Fifo", "Lfu", "Lru", "Policy", "S3Fifo", "Sieve", "Stats", "cached", "version"]
 
 K = TypeVar("K")
 V = TypeVar("V")
@@ -55,27 +57,47 @@ class _Values(ValuesView):
         return value in list(self)
 
 
+def _made_anew(kind: type[Cache], capacity: int, parameters: tuple[Any, ...], attributes: dict[str, Any]) -> Cache:
+    cache = kind.__new__(kind)
+    Cache.__init__(cache, capacity, *parameters)
+    vars(cache).update(attributes)
+    return cache
+
+
 class Cache(_Cache, MutableMapping[K, V]):
     """A mapping that holds at most ``capacity``, of values that weigh 1, ``weigher(key, value)`` or what ``insert`` says.
 
-    ``policy`` decides what is evicted: "fifo", "lru", "lfu" (w-TinyLFU), "s3fifo" or "sieve". Room for a value is made
-    before it replaces that of its key, so in a full cache another key may leave. A value expires ``ttl`` seconds after
-    it was inserted, or never; it is found no more, but counts in ``len`` until it leaves. Each of several ``shards``
-    gets its part of the capacity; under the interpreter's lock more than one gains nothing.
+    ``policy`` decides what is evicted: "fifo", "lru", "lfu" (w-TinyLFU), "s3fifo" or "sieve", or one with parameters,
+    such as ``S3Fifo(small=0.2)``. Room for a value is made before it replaces that of its key, so in a full cache another
+    key may leave. A value expires ``ttl`` seconds after it was inserted, or never; it is found no more, but counts in
+    ``len`` until it leaves, at the latest by ``expire()``. ``timer`` says the seconds, by default those of
+    ``time.monotonic``.
 
     Keys need a hash, as in a dict. An iteration goes over the keys that were there when it began, and counts as no use
-    of them. Any thread may use a cache. A child of a fork may use one that no other thread was using.
+    of them: with "fifo" and "lru" from the next that is evicted on, with the others from the oldest insert on.
+    ``popitem()`` takes the first of them. A subclass may have ``__missing__``, as one of a dict. Any thread may use a
+    cache. A child of a fork may use one that no other thread was using.
+
+    Each of several ``shards`` gets its part of the capacity. Under the interpreter's lock more than one gains nothing.
     """
 
     def __init__(
         self,
         capacity: int,
-        policy: str = "s3fifo",
+        policy: str | Policy = "s3fifo",
         shards: int = 1,
         ttl: float | None = None,
         weigher: Callable[[Any, Any], int] | None = None,
+        timer: Callable[[], float] | None = None,
     ) -> None:
-        super().__init__(capacity, policy, shards, ttl, weigher)
+        super().__init__(capacity, *split(policy), shards, ttl, weigher, timer)
+        self._parameters = (policy, shards, ttl, weigher, timer)
+
+    def __reduce__(self) -> tuple[Any, ...]:
+        """A copy or a pickle has what a lookup finds, inserted anew: with the weigher's weights and full times to live."""
+        attributes = {name: value for name, value in vars(self).items() if name != "_parameters"}
+        made = (type(self), self.stats().capacity, self._parameters, attributes)
+        return _made_anew, made, None, None, iter(self.items())
 
     def __iter__(self) -> Iterator[Any]:
         return iter([key for key, _ in self._item_list()])
@@ -102,6 +124,8 @@ class Cache(_Cache, MutableMapping[K, V]):
     # The mixin's are slower, and look a key up twice.
     get = _Cache.get
     pop = _Cache.pop
+    popitem = _Cache.popitem
+    setdefault = _Cache.setdefault
     clear = _Cache.clear
     __getitem__ = _Cache.__getitem__
     __setitem__ = _Cache.__setitem__
@@ -110,64 +134,45 @@ class Cache(_Cache, MutableMapping[K, V]):
     __len__ = _Cache.__len__
 
 
-class _CachedFunction(_Cached, Generic[T]):
-    """A function whose results are kept."""
-
-    cache_parameters: Callable[[], dict[str, Any]]
-    __wrapped__: Callable[..., T]
-
-    if TYPE_CHECKING:
-
-        def __call__(self, *args: Any, **words: Any) -> T: ...
-
-    def cache_info(self) -> CacheInfo:
-        """Hits, misses, the capacity and the entries, as ``functools.lru_cache`` has it."""
-        stats = Stats(*self._cache._counts())
-        return CacheInfo(stats.hits, stats.misses, self.cache_parameters()["maxsize"], stats.entries)
-
-    def cache_clear(self) -> None:
-        """Forgets all results and counts."""
-        self._cache.clear()
-        self._cache._reset_counts()
-
-    def __reduce__(self) -> str:
-        return self.__qualname__  # a pickle has its name, as that of any function
-
-    def __copy__(self) -> _CachedFunction[T]:
-        return self
-
-    def __deepcopy__(self, _: Any) -> _CachedFunction[T]:
-        return self
-
-
 @overload
-def cached(maxsize: Callable[..., T]) -> _CachedFunction[T]: ...
+def cached(maxsize: Callable[..., T]) -> _Cached[T]: ...
 
 
 @overload
 def cached(
-    maxsize: int | None = 128, policy: str = "s3fifo", typed: bool = False, ttl: float | None = None, shards: int = 1
-) -> Callable[[Callable[..., T]], _CachedFunction[T]]: ...
+    maxsize: int | None = 128,
+    policy: str | Policy = "s3fifo",
+    typed: bool = False,
+    ttl: float | None = None,
+    shards: int = 1,
+    timer: Callable[[], float] | None = None,
+) -> Callable[[Callable[..., T]], _Cached[T]]: ...
 
 
 def cached(
-    maxsize: Any = 128, policy: str = "s3fifo", typed: bool = False, ttl: float | None = None, shards: int = 1
+    maxsize: Any = 128,
+    policy: str | Policy = "s3fifo",
+    typed: bool = False,
+    ttl: float | None = None,
+    shards: int = 1,
+    timer: Callable[[], float] | None = None,
 ) -> Any:
     """Keeps the results of a function, as ``functools.lru_cache`` does, with a choice of policy and a time to live.
 
     The function gets ``cache_info()``, ``cache_clear()``, ``cache_parameters()`` and ``__wrapped__``. With the
-    ``maxsize`` None nothing is evicted; with 0, unlike ``functools.lru_cache``, the last result is kept. Threads that
-    miss the same arguments at the same time all call the function: ``Cache.get_or_insert`` lets one make a value.
+    ``maxsize`` None nothing is evicted, and with 0 or less nothing is kept. Threads that miss the same arguments at the
+    same time all call the function: ``Cache.get_or_insert`` lets one make a value. The function can't be ``async``.
     """
     if callable(maxsize):
         return cached()(maxsize)
+    size = None if maxsize is None else max(maxsize, 0)
 
-    def decorate(function: Callable[..., T]) -> _CachedFunction[T]:
-        cache: Cache[Any, T] = Cache(sys.maxsize if maxsize is None else maxsize, policy, shards, ttl)
-        wrapper: _CachedFunction[T] = _CachedFunction(function, cache, typed)
-        functools.update_wrapper(wrapper, function)
-        parameters = {"maxsize": maxsize, "typed": typed, "policy": policy, "ttl": ttl}
-        wrapper.cache_parameters = parameters.copy
-        return wrapper
+    def decorate(function: Callable[..., T]) -> _Cached[T]:
+        if inspect.iscoroutinefunction(function) or inspect.isasyncgenfunction(function):
+            raise TypeError("cached() is for functions that return their result, and not for async ones")
+        cache: Cache[Any, T] = Cache(sys.maxsize if size is None else size, policy, shards, ttl, timer=timer)
+        parameters = {"maxsize": size, "typed": typed, "policy": policy, "ttl": ttl}
+        wrapper = _Cached(function, cache, CacheInfo, parameters, typed, size == 0)
+        return functools.update_wrapper(wrapper, function)
 
     return decorate

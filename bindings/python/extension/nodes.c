@@ -1,0 +1,159 @@
+/* The nodes of a cache, their records, and the fetches of their values. */
+#include "cache.h"
+
+/* Spreads the hash of a Python object, which for an int is that int. */
+uint64_t hash_node(void *context, const void *key, size_t key_len) {
+    const node *it;
+    (void)context;
+    (void)key_len;
+    memcpy(&it, key, sizeof it);
+    uint64_t hash = (uint64_t)it->hash;
+    hash = (hash ^ hash >> 32) * 0xD6E8FEB86659FD93u;
+    hash = (hash ^ hash >> 32) * 0xD6E8FEB86659FD93u;
+    return hash ^ hash >> 32;
+}
+
+static void unlink_node(node *it) {
+    if (it->chain.next == NULL)
+        return;
+    it->chain.previous->next = it->chain.next;
+    it->chain.next->previous = it->chain.previous;
+    it->chain.next = NULL;
+}
+
+/* Makes a node the newest of the list. */
+static void link_last(cache_object *self, node *it) {
+    unlink_node(it);
+    it->chain = (chain){&self->list, self->list.previous};
+    it->chain.previous->next = self->list.previous = &it->chain;
+}
+
+/* Takes a node out of the table that no record and no call needs. */
+static void leave(cache_object *self, node *it) {
+    table_remove(&self->table, it);
+    it->chain.next = (chain *)self->left;
+    self->left = it;
+}
+
+/* Gives back the nodes that left. It may run Python code, and keeps an exception. */
+void give_back(cache_object *self) {
+    if (self->left == NULL)
+        return;
+    PyObject *type, *value, *trace;
+    PyErr_Fetch(&type, &value, &trace);
+    while (self->left != NULL) {
+        node *it = self->left;
+        PyObject *its_key = it->key, *its_value = it->value;
+        self->left = (node *)it->chain.next;
+        PyMem_Free(it);
+        Py_DECREF(its_key);
+        Py_XDECREF(its_value);
+    }
+    PyErr_Restore(type, value, trace);
+}
+
+/* A record of a node left. No Python code runs here. */
+void hear(void *context, int event, const void *key, size_t key_len, const void *value, size_t value_len) {
+    cache_object *self = context;
+    node *it;
+    (void)event;
+    (void)key_len;
+    (void)value;
+    (void)value_len;
+    memcpy(&it, key, sizeof it);
+    if (--it->records > 0)
+        return;
+    unlink_node(it);
+    if (it->uses == 0)
+        leave(self, it);
+}
+
+/* A call is done with a node. */
+void done_with(cache_object *self, node *it) {
+    if (--it->uses == 0 && it->records == 0)
+        leave(self, it);
+    give_back(self);
+}
+
+/* Makes the node of a key that has none. It is used until done_with. NULL and an exception if there is no memory. */
+node *add_node(cache_object *self, PyObject *key, Py_hash_t hash) {
+    node *it = PyMem_Malloc(sizeof *it);
+    if (it == NULL || (*it = (node){.key = key, .hash = hash, .uses = 1}, table_add(&self->table, it)) < 0) {
+        PyMem_Free(it);
+        PyErr_NoMemory();
+        return NULL;
+    }
+    Py_INCREF(key);
+    return it;
+}
+
+/* The node of a key, which is made if there is none. It is used until done_with. NULL and an exception if it fails. */
+node *use_node(cache_object *self, PyObject *key) {
+    node *it;
+    Py_hash_t hash = PyObject_Hash(key);
+    if (hash == -1 || find(self, key, hash, &it) < 0)
+        return NULL;
+    if (is_closed(self)) /* by the comparison of a key */
+        return NULL;
+    if (it == NULL)
+        return add_node(self, key, hash);
+    it->uses++;
+    return it;
+}
+
+/* The value of a node that a lookup finds (a new reference), or NULL; then an exception may be set. */
+PyObject *touch(cache_object *self, node *it, uint64_t now) {
+    luffa_status status = luffa_touch(self->cache, now, &it, sizeof it);
+    if (status == LUFFA_OK) {
+        self->hits++;
+        if (self->is_lru)
+            link_last(self, it);
+        Py_INCREF(it->value);
+        return it->value;
+    }
+    return status == LUFFA_MISSING ? NULL : refused(self, status);
+}
+
+/* The open fetch of a node, or NULL. */
+fetch *fetch_of(const cache_object *self, const node *it) {
+    fetch *open = self->fetches;
+    while (open != NULL && open->node != it)
+        open = open->next;
+    return open;
+}
+
+/* Ends a fetch, and wakes those who wait for it. */
+void end_fetch(cache_object *self, fetch *open, PyObject *value) {
+    fetch **at = &self->fetches;
+    while (*at != open)
+        at = &(*at)->next;
+    *at = open->next;
+    Py_XINCREF(value);
+    open->value = value;
+    open->is_open = 0;
+    if (open->ended != NULL)
+        PyThread_release_lock(open->ended);
+}
+
+/* Inserts a value at a time, which ends the fetch of its key. Returns 0, or -1 and an exception. */
+int put(cache_object *self, node *it, PyObject *value, size_t weight, uint64_t now, uint64_t ttl) {
+    uint64_t expires = ttl == 0 ? 0 : ttl > UINT64_MAX - now ? UINT64_MAX : now + ttl;
+    it->records++;
+    luffa_status status = luffa_insert(self->cache, now, &it, sizeof it, NULL, 0, weight, expires);
+    if (status != LUFFA_OK) {
+        if (--it->records == 0)
+            unlink_node(it);
+        refused(self, status);
+        return -1;
+    }
+    if (it->records > 0)
+        link_last(self, it);
+    fetch *open = fetch_of(self, it);
+    if (open != NULL)
+        end_fetch(self, open, value);
+    PyObject *old = it->value;
+    Py_INCREF(value);
+    it->value = value;
+    Py_XDECREF(old);
+    return 0;
+}

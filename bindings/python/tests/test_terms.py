@@ -1,0 +1,150 @@
+"""Capacity, weights, times to live, and the parameters of policies."""
+
+from __future__ import annotations
+
+import random
+import sys
+import time
+import unittest
+
+from luffapricot import Cache, Fifo, Lfu, Lru, Policy, S3Fifo, Sieve
+from support import POLICIES
+
+
+class Terms(unittest.TestCase):
+    def test_large_numbers(self) -> None:
+        cache = Cache(2**64 - 1, "lru")
+        cache.insert("a", 1, weight=2**64 - 1, ttl=float("inf"))
+        self.assertEqual((cache["a"], cache.stats()), (1, (1, 0, 2**64 - 1, 1, 2**64 - 1)))
+        for call in (lambda: Cache(2**64), lambda: cache.insert("b", 1, weight=2**64), lambda: cache.resize(-1)):
+            with self.assertRaises(OverflowError):
+                call()
+
+    def test_capacity(self) -> None:
+        for policy in POLICIES:
+            cache = Cache(10, policy)
+            for key in range(1000):
+                cache[key] = key
+                self.assertLessEqual(len(cache), 10)
+                self.assertEqual(cache[key], key)
+            self.assertEqual(len(list(cache)), len(cache))
+            cache.resize(3)
+            self.assertLessEqual(len(cache), 3)
+            cache.insert("heavy", 1, weight=3)
+            self.assertEqual((list(cache), cache.stats().usage), (["heavy"], 3))
+
+    def test_weigher(self) -> None:
+        asked: list = []
+
+        def weigher(key: str, value: str) -> int:
+            asked.append((key, value))
+            return len(value) if value else cache.close()
+
+        before = sys.getrefcount(weigher)
+        cache = Cache(10, "lru", weigher=weigher)
+        cache["a"] = "xxx"
+        self.assertEqual((cache.get_or_insert("b", lambda _: "xxxxx"), cache.stats().usage), ("xxxxx", 8))
+        cache.insert("c", "", weight=1)
+        self.assertEqual((cache.stats().usage, asked), (9, [("a", "xxx"), ("b", "xxxxx")]))
+        cache["d"] = "xxxxxx"
+        self.assertEqual(list(cache), ["c", "d"])
+        for call in (lambda: cache.get_or_insert("e", lambda _: ""), lambda: cache.__setitem__("e", "")):
+            with self.assertRaises((RuntimeError, TypeError)):
+                call()  # a weigher that closes the cache, and returns no number
+        with self.assertRaises(TypeError):
+            Cache(1, weigher=3)
+        del cache
+        self.assertEqual(sys.getrefcount(weigher), before)
+
+    def test_is_lru(self) -> None:
+        cache = Cache(100, "lru")
+        model: dict = {}
+        random.seed(1)
+        for _ in range(20000):
+            key = random.randrange(150)
+            value = cache.get(key)
+            self.assertEqual(value is not None, key in model)
+            if value is None:
+                cache[key] = key + 1
+            else:
+                del model[key]
+            model[key] = True
+            if len(model) > 100:
+                del model[next(iter(model))]
+
+    def test_time_to_live(self) -> None:
+        cache = Cache(10, ttl=0.3)
+        cache["a"] = 1
+        cache.insert("b", 2, ttl=20)
+        cache["c"] = 3
+        self.assertEqual((cache["a"], cache["b"]), (1, 2))
+        time.sleep(0.35)
+        self.assertEqual((cache.get("a"), "a" in cache, cache["b"], list(cache)), (None, False, 2, ["b"]))
+        self.assertEqual((len(cache), cache.pop("c", None), cache.pop("b"), len(cache)), (3, None, 2, 1))
+        cache["a"] = 3
+        self.assertEqual(cache["a"], 3)
+
+    def test_timer(self) -> None:
+        time_now = [5.0]
+        cache = Cache(10, "lru", ttl=10, timer=lambda: time_now[0])
+        cache.update(a=1, b=2)
+        cache.insert("c", 3, ttl=1)
+        for time_now[0], found in ((5.999, "abc"), (6, "ab"), (14.9, "ab"), (15, ""), (5, "abc")):
+            self.assertEqual("".join(key for key in "abc" if key in cache), found)
+        time_now[0] = 6.5
+        self.assertEqual((list(cache), len(cache), cache.expire(), len(cache)), (["a", "b"], 3, None, 2))
+        time_now[0] = 15
+        self.assertEqual((cache.get_or_insert("a", lambda _: 4), cache.popitem(), len(cache)), (4, ("a", 4), 0))
+        cache["a"] = 5
+        for time_now[0] in (-1, float("nan"), "x"):
+            with self.assertRaises((ValueError, TypeError)):
+                cache.get("a")
+        time_now[0] = 16
+        self.assertEqual(cache["a"], 5)
+        calls: list = [lambda: cache["a"], lambda: cache.get_or_insert("a", id), lambda: cache.insert("a", 1)]
+        calls += [lambda: cache.popitem(), lambda: cache.expire(), lambda: list(cache), lambda: "a" in cache]
+        for call in [*calls, lambda: cache.pop("a"), lambda: cache.resize(1)]:
+            cache = Cache(10, ttl=10, timer=lambda: cache.close() or 1.0)
+            with self.assertRaises(ValueError):
+                call()
+
+    def test_long_lives(self) -> None:
+        for life in (2**50 / 1e9, 2**50 / 1e9 + 1, 2**53 / 1e9, 2**62 / 1e9, 9.2e9, 1.8e10):
+            time_now = [1000.0]
+            cache = Cache(10, timer=lambda: time_now[0])
+            cache.insert("a", 1, ttl=life)
+            for time_now[0], is_there in ((1000 + life * 0.999999, True), (1000 + life * 1.000001, False)):
+                self.assertEqual("a" in cache, is_there or time_now[0] > 1.84e10, life)
+        cache.insert("b", 1, ttl=float("inf"))
+        time_now[0] = 1e12
+        self.assertFalse("b" in cache or "a" in cache)  # the end of all times
+        cache = Cache(10, ttl=1e300)
+        cache["a"] = 1
+        self.assertIn("a", cache)
+
+    def test_policies_with_parameters(self) -> None:
+        policies = [Fifo(), Lru(), Lfu(window=0.3, protected=0.5, sketch_rows=2, sketch_buckets=100), Sieve()]
+        policies += [S3Fifo(), S3Fifo(small=0.5, ghost=2, small_to_main=3), Lfu()]
+        for policy in policies:
+            cache = Cache(50, policy)
+            cache.update(zip(range(200), range(200)))
+            self.assertEqual((len(cache), Cache(1, policy=policy.name).stats().capacity), (50, 1))
+        wrong: list = [S3Fifo(small=0), S3Fifo(small=1.5), Lfu(window=0.5, protected=0.5), Lfu(sketch_rows=0), "x"]
+        wrong += [Lfu(sketch_rows=256), S3Fifo(ghost=1e9), S3Fifo(small="x"), 3, None, Lfu(sketch_buckets=-1)]
+        for policy in wrong:
+            with self.assertRaises((ValueError, TypeError, OverflowError)):
+                Cache(10, policy)
+
+        def hits(policy: Policy) -> int:
+            cache = Cache(100, policy)
+            random.seed(5)
+            for _ in range(5000):
+                cache.get_or_insert(int(random.paretovariate(0.5)), id)
+            return cache.stats().hits
+
+        self.assertEqual(hits(S3Fifo()), hits(S3Fifo(small=0.1, ghost=1.0, small_to_main=1)))
+        self.assertEqual(hits(Lfu()), hits(Lfu(0.1, 0.8, 3, 2719)))
+        for other in (S3Fifo(small=0.9), S3Fifo(ghost=0), S3Fifo(small_to_main=3)):
+            self.assertNotEqual(hits(S3Fifo()), hits(other))
+        for other in (Lfu(window=0.9, protected=0.05), Lfu(protected=0.1), Lfu(sketch_buckets=2), Lfu(sketch_rows=1)):
+            self.assertNotEqual(hits(Lfu()), hits(other))
