@@ -2,7 +2,7 @@
 but that of what left it says only the values, in their order as text. It knows no lines for phantoms, uses, bulk evictions
 and fetches. A handle is a number alone: whatever a script looks up it has to drop at once.
 
-A key's hash in the cache is the key: hash_id of the extension, which mixes hashes, is turned round. The time is clock.c's."""
+A key's hash in the cache is the key: how the extension mixes hashes is turned round here. The time is clock.c's."""
 import ctypes
 import re
 import sys
