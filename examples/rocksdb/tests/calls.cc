@@ -144,6 +144,18 @@ void Strict(const std::string &name) {
     Expect(cache->GetPinnedUsage() == 0 && cache->GetUsage() <= 1000, "nothing is held any more");
 }
 
+// An item may be larger than its shard's part of the capacity. (For LRUCache it may not.)
+void StrictShards(const std::string &name) {
+    auto cache = MakeCache(name, 1000, name == "LRUCache" ? 0 : 2);
+    cache->SetStrictCapacityLimit(true);
+    for (int i = 0; i < 50; i++) {
+        Cache::Handle *handle = InsertHeld(*cache, "j" + std::to_string(i), "x", 400);
+        Expect(cache->GetUsage() <= 1000, "no more than the capacity is used by large items");
+        if (handle != nullptr)
+            cache->Release(handle);
+    }
+}
+
 void AllEntries(const std::string &name) {
     auto cache = MakeCache(name, 1000000, 2);
     std::map<std::string, size_t> inserted, found;
@@ -171,7 +183,7 @@ void AllEntries(const std::string &name) {
 int main(int count, char **words) {
     if (count < 2)
         return 2;
-    for (auto *test : {Values, Handles, EraseIfLast, Evictions, Strict, AllEntries})
+    for (auto *test : {Values, Handles, EraseIfLast, Evictions, Strict, StrictShards, AllEntries})
         test(words[1]);
     return 0;
 }
