@@ -1,6 +1,7 @@
 #!/usr/bin/env python3
-"""decorators.py [--instructions]: a hit and a miss of @cached beside functools.lru_cache, and beside cachetools if it is
-installed, in the least nanoseconds of many short turns; with --instructions in instructions, by valgrind's callgrind, and of the whole interpreter.
+"""decorators.py [--instructions]: a hit and a miss of @cached beside functools.lru_cache, and beside cachetools if it
+is installed, in the least nanoseconds of many short turns; with --instructions in instructions of the whole
+interpreter, by valgrind's callgrind.
 decorators.py --memory: the bytes that an entry takes."""
 
 from __future__ import annotations
@@ -39,7 +40,7 @@ def decorators(capacity: int = CAPACITY) -> dict[str, Callable]:
 
 
 def calls(function: Callable[[int], int], kind: str, turns: int) -> float:
-    """Calls a function, with keys that its cache has, or hasn't while it is full. Returns the seconds of the fastest turn."""
+    """Calls a function with keys that its cache has, or hasn't while it is full. Returns the least seconds of a turn."""
     for key in range(CAPACITY if kind == "miss" else KEYS):
         function(key)
     took = float("inf")

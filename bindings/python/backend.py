@@ -1,9 +1,9 @@
 """Makes the wheel and the source distribution of this package (PEP 517). It needs a C compiler and no other package, so
 `pip install` works without a network.
 
-The extension is linked with libluffapricot.a: that of the folder LUFFAPRICOT_OUT names, or that of a source distribution,
-or else that of the repository, where ../build first compiles what has changed. With the setting abi3=yes the wheel is for
-CPython 3.10 and all later ones, and calls of `cached` functions are a little slower."""
+The extension is linked with libluffapricot.a: that of the folder LUFFAPRICOT_OUT names, or that of a source
+distribution, or else that of the repository, where ../build first compiles what has changed. With the setting abi3=yes
+the wheel is for CPython 3.10 and all later ones, and calls of `cached` functions are a little slower."""
 
 from __future__ import annotations
 

@@ -95,10 +95,11 @@ class Making(unittest.TestCase):
 
     def test_an_insert_meanwhile_is_the_result(self) -> None:
         for policy in POLICIES:
-            cache = Cache(100, policy, ttl=1000)
-            found = self.make_slowly(cache, lambda: cache.insert("a", "newer", weight=7, ttl=0.5))
+            time_now = [1]
+            cache = Cache(100, policy, ttl=1000, timer=lambda: time_now[0])
+            found = self.make_slowly(cache, lambda: cache.insert("a", "newer", weight=7, ttl=5))
             self.assertEqual((found, cache["a"], cache.stats().usage), (["newer"] * 3, "newer", 7))
-            time.sleep(0.55)
+            time_now[0] = 6
             self.assertNotIn("a", cache)  # its life is that of the insert
             cache["a"] = "other"
             self.assertEqual((cache["a"], cache.get_or_insert("a", id), len(cache)), ("other", "other", 1))
@@ -150,23 +151,23 @@ class Making(unittest.TestCase):
             return 1
 
         cache = Cache(10, weigher=weigher)
-        self.assertEqual((cache.get_or_insert("a", lambda _: "made"), cache["a"], cache.stats().usage), ("newer", "newer", 2))
+        self.assertEqual((cache.get_or_insert("a", lambda _: "made"), cache["a"]), ("newer", "newer"))
+        self.assertEqual(cache.stats().usage, 2)
 
     def test_signals_end_the_wait(self) -> None:
         lines = [
-            "import _thread, os, signal, threading, time, luffapricot",
-            "cache, begun = luffapricot.Cache(5), threading.Event()",
-            "make = lambda _: (begun.set(), time.sleep(2))",
+            "import os, signal, threading, luffapricot",
+            "cache, begun, may_end = luffapricot.Cache(5), threading.Event(), threading.Event()",
+            "make = lambda _: (begun.set(), may_end.wait(20))",
+            "interrupt = lambda: threading.Timer(0.1, lambda: os.kill(os.getpid(), signal.SIGINT)).start()",
             "threading.Thread(target=cache.get_or_insert, args=(1, make)).start()",
-            "begun.wait(); ended = time.monotonic() + 1",
-            "threading.Timer(0.1, lambda: os.kill(os.getpid(), signal.SIGINT)).start()",
+            "begun.wait(); interrupt()",
             "try: cache.get_or_insert(1, make)",
-            "except KeyboardInterrupt: print('interrupted', time.monotonic() < ended)",
-            "signal.signal(signal.SIGINT, lambda *_: print('handled'))",
-            "threading.Timer(0.1, lambda: os.kill(os.getpid(), signal.SIGINT)).start()",
-            "print(cache.get_or_insert(1, make))",
+            "except KeyboardInterrupt: print('interrupted', may_end.is_set())",
+            "signal.signal(signal.SIGINT, lambda *_: (print('handled'), may_end.set()))",
+            "interrupt(); print(cache.get_or_insert(1, make))",
         ]
-        self.assertEqual(run_alone("\n".join(lines)), "interrupted True\nhandled\n(None, None)\n")
+        self.assertEqual(run_alone("\n".join(lines)), "interrupted False\nhandled\n(None, True)\n")
 
     def test_its_own_key(self) -> None:
         cache = Cache(10)

@@ -18,7 +18,8 @@ from typing import Any, Callable, Iterator, NamedTuple, TypeVar, overload
 from ._luffapricot import Error, _Cache, _Cached, version
 from ._policies import Fifo, Lfu, Lru, Policy, S3Fifo, Sieve, split
 
-__all__ = ["Cache", "CacheInfo", "Error", "Fifo", "Lfu", "Lru", "Policy", "S3Fifo", "Sieve", "Stats", "cached", "version"]
+__all__ = ["Cache", "CacheInfo", "Error", "Stats", "cached", "version"]
+__all__ += ["Fifo", "Lfu", "Lru", "Policy", "S3Fifo", "Sieve"]
 
 K = TypeVar("K")
 V = TypeVar("V")
@@ -65,11 +66,11 @@ def _made_anew(kind: type[Cache], capacity: int, parameters: tuple[Any, ...], at
 
 
 class Cache(_Cache, MutableMapping[K, V]):
-    """A mapping that holds at most ``capacity``, of values that weigh 1, ``weigher(key, value)`` or what ``insert`` says.
+    """A mapping that holds at most ``capacity``: values weigh 1, ``weigher(key, value)`` or what ``insert`` says.
 
     ``policy`` decides what is evicted: "fifo", "lru", "lfu" (w-TinyLFU), "s3fifo" or "sieve", or one with parameters,
-    such as ``S3Fifo(small=0.2)``. Room for a value is made before it replaces that of its key, so in a full cache another
-    key may leave. A value expires ``ttl`` seconds after it was inserted, or never; it is found no more, but counts in
+    such as ``S3Fifo(small=0.2)``. Room for a value is made before it replaces that of its key, so in a full cache
+    another key may leave. A value expires ``ttl`` seconds after it was inserted, or never; it is found no more, but counts in
     ``len`` until it leaves, at the latest by ``expire()``. ``timer`` says the seconds, by default those of
     ``time.monotonic``.
 
@@ -94,7 +95,7 @@ class Cache(_Cache, MutableMapping[K, V]):
         self._parameters = (policy, shards, ttl, weigher, timer)
 
     def __reduce__(self) -> tuple[Any, ...]:
-        """A copy or a pickle has what a lookup finds, inserted anew: with the weigher's weights and full times to live."""
+        """A copy or a pickle has what a lookup finds, inserted anew: weights are the weigher's, and lives begin."""
         attributes = {name: value for name, value in vars(self).items() if name != "_parameters"}
         made = (type(self), self.stats().capacity, self._parameters, attributes)
         return _made_anew, made, None, None, iter(self.items())

@@ -32,8 +32,8 @@ class Lru(Policy):
 
 @dataclasses.dataclass(frozen=True)
 class Lfu(Policy):
-    """w-TinyLFU: shares of the capacity for its window (0.1) and its protected segment (0.8), above 0 and together below
-    1, and the rows (3) and buckets (2719) of the sketch that counts uses."""
+    """w-TinyLFU: shares of the capacity for its window (0.1) and its protected segment (0.8), above 0 and together
+    below 1, and the rows (3) and buckets (2719) of the sketch that counts uses."""
 
     window: float | None = None
     protected: float | None = None
