@@ -16,6 +16,9 @@ class Terms(unittest.TestCase):
         cache = Cache(2**64 - 1, "lru")
         cache.insert("a", 1, weight=2**64 - 1, ttl=float("inf"))
         self.assertEqual((cache["a"], cache.stats()), (1, (1, 0, 2**64 - 1, 1, 2**64 - 1)))
+        cache = Cache(2**64 - 1, "lru", weigher=lambda _, value: value)
+        cache["a"], cache["b"] = 2**40, 2**63
+        self.assertEqual(cache.stats().usage, 2**40 + 2**63)
         for call in (lambda: Cache(2**64), lambda: cache.insert("b", 1, weight=2**64), lambda: cache.resize(-1)):
             with self.assertRaises(OverflowError):
                 call()
