@@ -18,6 +18,8 @@ mod leaves;
 mod limits;
 #[cfg(test)]
 mod moments;
+#[cfg(test)]
+mod no_entry;
 pub mod notes;
 #[cfg(test)]
 mod races;
