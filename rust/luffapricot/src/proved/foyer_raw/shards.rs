@@ -18,7 +18,7 @@ mod walk;
 
 pub(crate) use counting::Counting;
 pub(crate) use fetches::{Later, RawEnded};
-pub(crate) use keys::RawInserted;
+pub(crate) use keys::{RawInserted, RawPut};
 
 /// A shard of a cache whose waiters hold senders, and whose later builders are of this type.
 pub(crate) type RawShard<E, K, V, P, R, I> = Shard<E, K, V, P, Notifier<Answer<K, V, P>>, R, I>;

@@ -53,6 +53,27 @@ where
     where
         F: FnOnce() -> crate::rattle_std::result::Result<V, Fault>,
     {
+        self.get_or_insert_with_properties(now, key, || match make() {
+            Ok(value) => Ok((value, P::default())),
+            Err(fault) => Err(fault),
+        })
+    }
+
+    /// Returns an entry of the key's record as `get_or_insert_with` does. The closure returns the properties too, such as
+    /// the value's own expiry.
+    ///
+    /// # Errors
+    /// Those of `get_or_insert_with`.
+    #[inline]
+    pub fn get_or_insert_with_properties<F>(
+        &self,
+        now: u64,
+        key: &K,
+        make: F,
+    ) -> Result<RawCacheEntry<H, E, K, V, S, P, W, A, L, Q, T::Required, I>>
+    where
+        F: FnOnce() -> crate::rattle_std::result::Result<(V, P), Fault>,
+    {
         let hash = self.hash(key);
         if let Some(entry) = self.get_first(now, hash, key)? {
             return Ok(entry);
@@ -81,7 +102,7 @@ where
                     time_to_live: self.time_to_live,
                 };
                 match make() {
-                    Ok(value) => task.complete(fetch, own, value, P::default(), Source::Outer),
+                    Ok((value, properties)) => task.complete(fetch, own, value, properties, Source::Outer),
                     Err(fault) => task.fail(fetch, &own, fault),
                 }
             }

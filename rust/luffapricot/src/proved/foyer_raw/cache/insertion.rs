@@ -9,7 +9,7 @@ use crate::proved::foyer_raw::expiry::expiring;
 use crate::proved::foyer_raw::fetch::FetchTypes;
 use crate::proved::foyer_raw::leaves::Leaves;
 use crate::proved::foyer_raw::pipe::Pipe;
-use crate::proved::foyer_raw::shards::RawInserted;
+use crate::proved::foyer_raw::shards::{RawInserted, RawPut};
 use crate::proved::foyer_raw::shares::Shares;
 use crate::proved::foyer_core::{CoreEntry, Filter, Finder, InsertedOnto, Leave, Piece, Share, Weighter};
 use crate::proved::foyer_policy::{
@@ -119,6 +119,66 @@ where
         let mut leaves = Vec::new(shards.alloc);
         match shards.emplace(now, kept, &mut leaves) {
             Ok(made) => Ok(self.came_in(shares, made, leaves)),
+            Err(error) => Err(self.refused(error, leaves)),
+        }
+    }
+
+    /// Inserts a value with default properties, as `put_with_properties` does.
+    ///
+    /// # Errors
+    /// Those of `insert_with_properties`.
+    #[inline]
+    pub fn put(&self, now: u64, key: K, value: V) -> Result<()> {
+        self.put_with_properties(now, key, value, P::default())
+    }
+
+    /// Inserts a record as `insert_with_properties` does, and makes no entry of it: an insert and the drop of its entry in one
+    /// step, under one lock.
+    ///
+    /// # Errors
+    /// Those of `insert_with_properties`.
+    #[inline]
+    pub fn put_with_properties(&self, now: u64, key: K, value: V, properties: P) -> Result<()> {
+        let properties = expiring(properties, now, self.time_to_live);
+        let kept = self.shares.shared.data(self.hash(&key), key, value, properties);
+        let shards = &self.shares.shared.shards;
+        match Share::new(shards.alloc, kept) {
+            Ok(kept) => self.put_share(now, kept),
+            Err(kept) => Err(shards.refuse_insert(kept.hash, &kept.key, &kept.properties, kept.weight)),
+        }
+    }
+
+    // Inserts a record with this share of its data, and makes no entry of it.
+    #[inline(always)]
+    fn put_share(&self, now: u64, kept: Share<K, V, P>) -> Result<()> {
+        let shards = &self.shares.shared.shards;
+        let (mut leaves, mut later) = (Leaves::new(shards.alloc), None);
+        let put = shards.put(now, kept, &mut leaves, &mut later);
+        if let Some(kept) = later {
+            return self.put_answering(now, kept);
+        }
+        self.shares.tell_leaves(leaves);
+        if let Some(last) = put? {
+            self.shares.tell(last);
+        }
+        Ok(())
+    }
+
+    // Inserts a record with this share of its data while fetches are open, and makes no entry of it.
+    #[cold]
+    #[inline(never)]
+    fn put_answering(&self, now: u64, kept: Share<K, V, P>) -> Result<()> {
+        let shards = &self.shares.shared.shards;
+        let mut leaves = Vec::new(shards.alloc);
+        match shards.put_answering(now, kept, &mut leaves) {
+            Ok(RawPut { answers, last }) => {
+                self.shares.answer(answers);
+                self.shares.tell_all(leaves);
+                if let Some(last) = last {
+                    self.shares.tell(last);
+                }
+                Ok(())
+            }
             Err(error) => Err(self.refused(error, leaves)),
         }
     }

@@ -50,6 +50,55 @@ where
         self.entry_found(hash, self.shares.shared.shards.get(now, hash, key))
     }
 
+    /// Calls `look` with the value that a `get` at `now` would find, counts a use of its record, and returns what `look`
+    /// returned. Makes no entry, and takes one lock.
+    ///
+    /// `look` runs under that lock: it must not call the cache, and should be short.
+    ///
+    /// # Errors
+    /// F9 if the handle count would pass its limit.
+    #[inline(always)]
+    pub fn read<X, F: FnOnce(&V) -> X>(&self, now: u64, key: &K, look: F) -> Result<Option<X>> {
+        let hash = self.hash(key);
+        self.shares.shared.shards.read(now, hash, key, look)
+    }
+
+    /// Calls `look` as `read` does, and counts no use. A `peek` isn't counted among hits and misses either.
+    #[inline(always)]
+    pub fn peek<X, F: FnOnce(&V) -> X>(&self, now: u64, key: &K, look: F) -> Option<X> {
+        let hash = self.hash(key);
+        self.shares.shared.shards.peek(now, hash, key, look)
+    }
+
+    /// Returns a copy of the value that a `get` at `now` would find. This counts as a use, as `read` does.
+    ///
+    /// # Errors
+    /// F9 if the handle count would pass its limit.
+    #[inline(always)]
+    pub fn get_copied(&self, now: u64, key: &K) -> Result<Option<V>>
+    where
+        V: Copy,
+    {
+        self.read(now, key, |value| *value)
+    }
+
+    /// Returns a clone of the value that a `get` at `now` would find, made under the shard's lock. This counts as a use, as
+    /// `read` does.
+    ///
+    /// # Errors
+    /// F9 if the handle count would pass its limit, F7 if the clone fails, which still counts as a use.
+    #[inline(always)]
+    pub fn get_cloned(&self, now: u64, key: &K) -> Result<Option<V>>
+    where
+        V: TryClone,
+    {
+        match self.read(now, key, |value| value.try_clone())? {
+            Some(Ok(clone)) => Ok(Some(clone)),
+            Some(Err(_)) => Err(Error::new(Reason::NoMemory)),
+            None => Ok(None),
+        }
+    }
+
     // An entry as `get` returns it. A miss is not counted, since another look-up follows it.
     #[inline]
     pub(crate) fn get_first(
@@ -99,6 +148,23 @@ where
                 Ok(Some(shares.entry(core)))
             }
             None => Ok(None),
+        }
+    }
+
+    /// Removes the key's record, expired or not, and returns whether there was one. The listener is told of it as `Remove`. Makes
+    /// no entry.
+    ///
+    /// # Errors
+    /// F9 if the handle count would pass its limit.
+    #[inline]
+    pub fn delete(&self, key: &K) -> Result<bool> {
+        let hash = self.hash(key);
+        match self.shares.shared.shards.delete(hash, key)? {
+            Some(left) => {
+                self.shares.tell((Event::Remove, left));
+                Ok(true)
+            }
+            None => Ok(false),
         }
     }
 

@@ -54,6 +54,29 @@ impl<E: Eviction, K: Key, V: Value, P: Properties, R, I: Finder<K>> Counting<E, 
         placed
     }
 
+    // Inserts a record of which no entry is wanted while no fetch is open, and counts it and what left for it. Returns what left
+    // with the entry that it never had.
+    #[inline(always)]
+    pub(crate) fn put(
+        &mut self,
+        now: u64,
+        kept: Share<K, V, P>,
+        leaves: &mut Leaves<K, V, P>,
+    ) -> Result<Option<Leave<K, V, P>>> {
+        let is_phantom = kept.properties().phantom() == Some(true);
+        let put = self.shard.put(now, kept, &mut self.left);
+        match &put {
+            Ok(_) if is_phantom => {}
+            Ok(_) => self.stats.count(Counted::Insert),
+            Err(_) => self.stats.count(Counted::Refused),
+        }
+        for (event, left) in &self.left {
+            self.stats.count_left(now, *event, left);
+        }
+        leaves.take(&mut self.left);
+        put
+    }
+
     // The shard.
     #[inline]
     pub(crate) fn into_shard(self) -> RawShard<E, K, V, P, R, I> {

@@ -6,12 +6,22 @@ use crate::rattle_std::prelude::*;
 use super::{FIRST, Shards};
 use crate::proved::foyer_raw::leaves::Leaves;
 use crate::proved::foyer_raw::ticket::{Answer, Notifier};
-use crate::proved::foyer_core::{CoreEntry, Counted, Finder, Got, InsertedOnto, Leave, Left, Piece, Share};
+use crate::proved::foyer_core::{
+    Answers, CoreEntry, Counted, Finder, Got, InsertedOnto, Leave, Left, Piece, Share,
+};
 use crate::proved::foyer_policy::{Error, Event, Eviction, Key, Properties, Reason, Result, Source, Value};
 use crate::rattle_std::sync::Wait;
 
 /// What an insert answers that is not refused.
 pub(crate) type RawInserted<K, V, P> = InsertedOnto<K, V, P, Notifier<Answer<K, V, P>>>;
+
+/// What a put answers that is not refused while fetches are open.
+pub(crate) struct RawPut<K, V, P> {
+    /// What the key's waiters get.
+    pub(crate) answers: Answers<K, V, P, Notifier<Answer<K, V, P>>>,
+    /// What left with the entry.
+    pub(crate) last: Option<Leave<K, V, P>>,
+}
 
 impl<H, E, K, V, P, R, I> Shards<H, E, K, V, P, R, I>
 where
@@ -56,6 +66,42 @@ where
         Ok(taken)
     }
 
+    // Removes the key's record, of which no entry is wanted.
+    #[inline]
+    pub(crate) fn delete(&self, hash: u64, key: &K) -> Result<Option<Left<K, V, P>>> {
+        let mut locked = self.lock(hash);
+        let taken = locked.shard.delete(hash, key)?;
+        if let Some(left) = &taken {
+            locked.stats.count_left(FIRST, Event::Remove, left);
+        }
+        Ok(taken)
+    }
+
+    // Counts a use of what the key hits, and returns what `look` makes of its value, under the lock.
+    #[inline(always)]
+    pub(crate) fn read<X, F: FnOnce(&V) -> X>(
+        &self,
+        now: u64,
+        hash: u64,
+        key: &K,
+        look: F,
+    ) -> Result<Option<X>> {
+        let mut locked = self.lock(hash);
+        let seen = locked.shard.read(now, hash, key, look);
+        match &seen {
+            Ok(Some(_)) => locked.stats.count(Counted::Hit),
+            Ok(None) => locked.stats.count(Counted::Miss),
+            Err(_) => {}
+        }
+        seen
+    }
+
+    // Returns what `look` makes of the value that the key hits, under the lock.
+    #[inline(always)]
+    pub(crate) fn peek<X, F: FnOnce(&V) -> X>(&self, now: u64, hash: u64, key: &K, look: F) -> Option<X> {
+        self.lock(hash).shard.peek(now, hash, key, look)
+    }
+
     #[inline]
     pub(crate) fn touch(&self, now: u64, hash: u64, key: &K) -> Result<bool> {
         let mut locked = self.lock(hash);
@@ -88,6 +134,48 @@ where
             return Ok(());
         }
         locked.place(now, kept, entry, leaves)
+    }
+
+    // Inserts a record at a moment with this share of its data, and returns what left with its entry, which is never made. If a
+    // fetch is open, nothing happens, and the share comes back in `later`.
+    #[inline(always)]
+    pub(crate) fn put(
+        &self,
+        now: u64,
+        kept: Share<K, V, P>,
+        leaves: &mut Leaves<K, V, P>,
+        later: &mut Option<Share<K, V, P>>,
+    ) -> Result<Option<Leave<K, V, P>>> {
+        let mut locked = self.lock(kept.hash());
+        if locked.shard.has_fetches() {
+            *later = Some(kept);
+            return Ok(None);
+        }
+        locked.put(now, kept, leaves)
+    }
+
+    // Inserts a record as `put` does, also while fetches are open: the entry is taken back under the same lock. Appends what
+    // leaves, and returns what the key's waiters get and what left with the entry.
+    #[cold]
+    #[inline(never)]
+    pub(crate) fn put_answering(
+        &self,
+        now: u64,
+        kept: Share<K, V, P>,
+        leaves: &mut Vec<Leave<K, V, P>>,
+    ) -> Result<RawPut<K, V, P>> {
+        let mut locked = self.lock(kept.hash());
+        let made = locked
+            .shard
+            .emplace_share(self.alloc, now, kept, Source::Outer, leaves);
+        locked.count_insert(now, &made, leaves);
+        let InsertedOnto { entry, answers } = made?;
+        let taken = locked.shard.take_back(&entry);
+        entry.discard();
+        Ok(RawPut {
+            answers,
+            last: taken.ok().flatten(),
+        })
     }
 
     // Inserts a record at a moment with this share of its data, also while fetches are open, and appends what leaves.
