@@ -35,6 +35,7 @@ SOURCE = [
     (r"use std : : marker : : Model ;|\bModel , |use thiserror : : Error as ThisError ;", ""),
     (r"(# \[ test \] fn \w+ \()[^)]*HostRuntime ,? ?\)", r"\1 )"),
     (r"(?<!: : )\b(std|crate) : : ", ""),
+    (r"\bpub \( super \)", "pub ( crate )"),
 ]
 # What goes from the output, and what is put for it. OWN is the crate, as its modules are named.
 OUTPUT = [

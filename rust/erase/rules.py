@@ -232,9 +232,6 @@ def drop_impl(self, body, name):
         if self.tokens[i].text == "&" and self.tokens[i + 1].text in {*fields} - {*DROPS[name]}:
             del self.tokens[i]  # what is lent is a reference already
     lets = "".join(f"\nlet {it} = {HOW[DROPS[name][it]].format(it)};" for it in fields if it in DROPS[name])
-    for i in range(end, last, -1):
-        if self.tokens[i].text == "&" and self.tokens[i + 1].text in {*fields} - {*DROPS[name]}:
-            del self.tokens[i]  # it is lent already
     self.tokens[last + 1:last + 1] = made(lets, self.tokens[last].line)
     at = next(i for i in range(body, end) if self.tokens[i].text == "self")
     start = at - 2 if self.tokens[at - 2].text == "mut" else at

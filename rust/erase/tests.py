@@ -54,6 +54,7 @@ WRITES = [
     ("expect", 'x.expect(&rt, "why"); y.expect_err(rt, "why"); z.expect("why");', 'x.expect_at("why"); y.expect_err_at("why"); z.expect("why");'),
     ("paths", "use crate::a; use std::alloc::Global; use foyer_core::Left; use futures::Future; use thiserror::Error as ThisError;",
      "use OWN::a; use K::alloc::Global; use luffapricot::proved::foyer_core::Left; use K::futures::Future;"),
+    ("visibility", "pub(super) struct A; pub(in super::a) struct B;", "pub(crate) struct A; pub(in super::a) struct B;"),
     ("main", "fn main(rt: HostRuntime) -> ExitCode { f(rt) }",
      "fn main() -> K::process::ExitCode { rattle_main(HostRuntime) } fn rattle_main(rt: HostRuntime) -> ExitCode { f(rt) }"),
     ("fmt", "impl Debug for S { fn fmt<W: fmt::Write>(&self, f: &mut fmt::Formatter<W>) -> fmt::Result { g(f) } }",

@@ -110,6 +110,11 @@ fn drive<K: Sync>(args: &Args, target: &impl Target<K>, traces: &[Vec<K>]) -> (u
         true => trace.iter().filter(|key| target.by_read(key)).count(),
         false => trace.iter().filter(|key| target.by_entry(key)).count(),
     };
+    let each = |start: Instant| start.elapsed().as_nanos() as f64 / (args.ops * args.threads) as f64;
+    if let [trace] = traces {
+        let start = Instant::now();
+        return (run(trace), each(start));
+    }
     let barrier = Barrier::new(traces.len() + 1);
     std::thread::scope(|scope| {
         let threads: Vec<_> = traces
@@ -124,7 +129,7 @@ fn drive<K: Sync>(args: &Args, target: &impl Target<K>, traces: &[Vec<K>]) -> (u
         barrier.wait();
         let start = Instant::now();
         let hits = threads.into_iter().map(|thread| thread.join().expect("a thread")).sum();
-        (hits, start.elapsed().as_nanos() as f64 / (args.ops * args.threads) as f64)
+        (hits, each(start))
     })
 }
 
