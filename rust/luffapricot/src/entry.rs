@@ -73,7 +73,7 @@ impl<K: Key, V: Value, S, P: Properties> CacheEntry<K, V, S, P> {
         self.0.refs()
     }
 
-    /// Returns whether look-ups no longer find the record: it was evicted, replaced or removed. Locks its shard.
+    /// Returns whether the record has left the cache: it was evicted, replaced, removed or cleared. Locks its shard.
     pub fn is_outdated(&self) -> bool {
         self.0.is_outdated()
     }
@@ -115,6 +115,6 @@ impl<K: Key, V: Value, S, P: Properties> Deref for CacheEntry<K, V, S, P> {
 
 impl<K: Key, V: Value, S, P: Properties> fmt::Debug for CacheEntry<K, V, S, P> {
     fn fmt(&self, f: &mut fmt::Formatter<'_>) -> fmt::Result {
-        self.0.fmt(f)
+        f.debug_struct("CacheEntry").field("hash", &self.hash()).finish_non_exhaustive()
     }
 }

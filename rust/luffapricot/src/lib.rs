@@ -34,7 +34,7 @@ pub use builder::CacheBuilder;
 pub use cache::Cache;
 pub use config::{EvictionConfig, FifoConfig, LfuConfig, LruConfig, S3FifoConfig, SieveConfig, UnknownPolicy};
 pub use entry::CacheEntry;
-pub use error::{BoxError, Error, ErrorKind, Result};
+pub use error::{BoxError, Error, ErrorKind};
 pub use fetch::{GetOrFetch, Spawner};
 pub use key::Equivalent;
 pub use pipe::{ArcPipe, BoxFuture, NoopPipe, Piece, Pipe};
