@@ -134,18 +134,16 @@ fn each_shard_is_reconfigured() {
 #[test]
 fn one_call_tells_of_thousands_that_left() {
     let capacity = 2 * MANY as usize;
-    let calls: [(fn(&Numbers), Event); 4] = [
-        (|cache| cache.clear(), Event::Clear),
-        (|cache| cache.resize(0).unwrap(), Event::Evict),
-        (|cache| cache.evict_all(), Event::Evict),
-        (|cache| cache.retain(|_, _| false), Event::Remove),
-    ];
-    for (call, event) in calls {
+    let tells = |call: fn(&Numbers), event| {
         let it = Watched::new(capacity, 1, FifoConfig {});
         (0..MANY).for_each(|key| it.cache.put(key, key));
         call(&it.cache);
         assert_eq!((it.left(), it.cache.entries(), it.cache.usage()), (all(event, 0..MANY), 0, 0));
-    }
+    };
+    tells(|cache| cache.clear(), Event::Clear);
+    tells(|cache| cache.resize(0).unwrap(), Event::Evict);
+    tells(|cache| cache.evict_all(), Event::Evict);
+    tells(|cache| cache.retain(|_, _| false), Event::Remove);
     let heavy = CacheBuilder::new(capacity).with_shards(1).with_eviction_config(FifoConfig {});
     let it = Watched::of(heavy.with_weighter(|_, value| *value as usize));
     (0..MANY).for_each(|key| it.cache.put(key, 1));
