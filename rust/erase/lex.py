@@ -109,9 +109,10 @@ def lex(text, path="", line=1):
 
 def find(tokens, at, *texts):
     """The index of the first token from `at` on that is one of these."""
-    while tokens[at].text not in texts:
-        at += 1
-    return at
+    found = next((i for i in range(at, len(tokens)) if tokens[i].text in texts), None)
+    if found is None:
+        raise Refused(f"{tokens[at].line}: no {' or '.join(texts)} follows")
+    return found
 
 
 def closing(tokens, at):
@@ -122,7 +123,7 @@ def closing(tokens, at):
             depth += {opens: 1, closes: -1}.get(tokens[i].text, 0)
         if depth == 0:
             return i
-    raise Refused(f"{opens} isn't closed")
+    raise Refused(f"{tokens[at].line}: {opens} isn't closed")
 
 
 def put(tokens, start, end, text):
