@@ -1,6 +1,6 @@
 #!/usr/bin/env python3
-"""erase.py [--check] [--to FOLDER] [NAME..]: writes the proved crates as modules of the Rust crate `luffapricot`, contracts and
-ghost code left out, into rust/luffapricot/src/proved; with --check it writes nothing, and compares.
+"""erase.py [--check] [--to FOLDER]: writes the proved crates as modules of the Rust crate `luffapricot`, contracts and ghost
+code left out, into rust/luffapricot/src/proved; with --check it writes nothing, and compares.
 
 erase.py --crate NAME --to FOLDER: writes a crate of tests, or a program, as a Rust crate that uses `luffapricot`.
 
@@ -28,7 +28,8 @@ RUSTFMT = ["rustfmt", "--edition", "2024", "--config", "reorder_imports=false,re
 def sources_of(crate):
     """The files of a crate, by their paths in it."""
     top = f"{ROOT}/crates/{crate}/src"
-    return {it: open(f"{top}/{it}", encoding="utf-8").read() for it in sorted(glob.glob("**/*.rt", root_dir=top, recursive=True))}
+    found = sorted(glob.glob("**/*.rt", root_dir=top, recursive=True))
+    return {it: open(f"{top}/{it}", encoding="utf-8").read() for it in found}
 
 
 def copied_in(texts):
@@ -90,7 +91,8 @@ def modules():
     """The files of `luffapricot`'s proved modules, laid out, by their paths below PROVED."""
     found = {"mod.rs": "".join(f"mod {it};\n" for it in SHIPPED)}
     for crate in SHIPPED:
-        found |= {f"{crate}/{'mod.rs' if it == 'lib.rs' else it}": text for it, text in Target(crate, False).files().items()}
+        files = Target(crate, False).files()
+        found |= {f"{crate}/{'mod.rs' if it == 'lib.rs' else it}": text for it, text in files.items()}
     with tempfile.TemporaryDirectory() as room:
         write(room, found)
         ran = subprocess.run([*RUSTFMT, f"{room}/mod.rs"], capture_output=True, text=True, check=False)

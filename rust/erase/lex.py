@@ -8,15 +8,16 @@ class Refused(Exception):
 
 
 class Token(NamedTuple):
-    """A token; its kind is one of ws, comment, str, char, life, id, num, p."""
+    """A token, with the blanks and comments before it; its kind is one of str, char, life, id, num, p."""
 
     kind: str
     text: str
+    lead: str = ""
     line: int = 0
 
 
 PATTERNS = [
-    ("ws", r"\s+"),
+    ("blank", r"\s+"),
     ("comment", r"//[^\n]*|/\*.*?\*/"),
     ("str", r'b?r(?P<hashes>#*)".*?"(?P=hashes)|[bc]?"(?:[^"\\]|\\.)*"'),
     ("char", r"b?'(?:[^'\\]|\\(?:u\{[^}]*\}|x..|.))'"),
@@ -28,7 +29,9 @@ PATTERNS = [
 TOKEN = re.compile("|".join(f"(?P<{kind}>{pattern})" for kind, pattern in PATTERNS), re.DOTALL | re.ASCII)
 CLAUSE = re.compile(r"\*?\s*[\w«»-]*\s*(?=\{)")
 BY = re.compile(r"\s*by\s*(?=\{)")
-PAIRS = {"{": "}", "(": ")", "[": "]"}
+# What stays before an erased item: all up to a blank line or to a comment on the file, or one on the line before.
+STAYS = re.compile(r".*(?:\n[ \t]*\n\s*|//![^\n]*)|[ \t]*//[^\n]*", re.DOTALL)
+PAIRS = {"{": "}", "(": ")", "[": "]", "<": ">"}
 
 
 def after_braces(text, at):
@@ -68,59 +71,48 @@ def after_clause(text, at):
     return after_braces(text, found.end()) if found else at
 
 
-def is_blank(token):
-    return token.kind in ("ws", "comment")
-
-
-def drop_lead(tokens):
-    """Drops what stands before an erased item and belongs to it: its visibility, comments, docs and attributes' blanks."""
-    last = len(tokens) - 1
-    while last >= 0 and is_blank(tokens[last]):
-        last -= 1
-    if last >= 0 and tokens[last].text == "pub":
-        del tokens[last:]
-    elif last >= 3 and tokens[last].text == ")" and tokens[last - 3].text == "pub":
-        del tokens[last - 3:]
-    while tokens and is_blank(tokens[-1]):
-        is_own_line = len(tokens) < 2 or tokens[-2].kind == "ws" and "\n" in tokens[-2].text
-        if tokens[-1].kind == "comment" and (tokens[-1].text.startswith("//!") or not is_own_line):
-            break
-        if tokens[-1].kind == "ws" and tokens[-1].text.count("\n") > 1:
-            break
-        tokens.pop()
+def without_item(tokens, lead):
+    """Drops an item's visibility, and returns what stays of the blanks, comments and docs before it."""
+    if tokens and tokens[-1].text == "pub":
+        lead = tokens.pop().lead
+    elif len(tokens) > 3 and tokens[-1].text == ")" and tokens[-4].text == "pub":
+        lead = tokens[-4].lead
+        del tokens[-4:]
+    stays = STAYS.match(lead)
+    return stays[0] if stays else ""
 
 
 def lex(text, path="", line=1):
-    """The tokens of a file of Rattle, without ghost items and clauses."""
-    tokens, at = [], 0
+    """The tokens of a file of Rattle, without ghost items and clauses; the last one is the file's end."""
+    tokens, at, lead = [], 0, ""
     try:
         while at < len(text):
             found = TOKEN.match(text, at)
             if not found:
                 raise Refused(f"the character {text[at]!r}")
-            word, end = found.group(), found.end()
+            word, kind, end = found.group(), found.lastgroup, found.end()
             if word == "ghost":
-                end = after_ghost(text, at)
-                drop_lead(tokens)
+                end, lead = after_ghost(text, at), without_item(tokens, lead)
             elif word in ("requires", "ensures"):
-                end = after_clause(text, end)
-                while tokens and is_blank(tokens[-1]):
-                    tokens.pop()
-                tokens.append(Token("ws", "\n", line))
+                end, lead = after_clause(text, end), "\n"
+            elif kind in ("blank", "comment"):
+                lead += word
             else:
-                tokens.append(Token(found.lastgroup if found.lastgroup != "hashes" else "str", word.strip("«»"), line))
+                tokens.append(Token("str" if kind == "hashes" else kind, word.strip("«»"), lead, line))
+                lead = ""
             line += text.count("\n", at, end)
             at = end
     except Refused as refused:
         raise Refused(f"{path}:{line}: {refused}") from None
-    return tokens
+    return [*tokens, Token("p", "", lead, line)]
 
 
-def significant(tokens, at, step=1):
-    """The index of the next token from `at` on that is neither blank nor a comment."""
-    while 0 <= at < len(tokens) and is_blank(tokens[at]):
-        at += step
-    return at
+def find(tokens, at, *texts):
+    """The index of the first token from `at` on that is one of these."""
+    found = next((i for i in range(at, len(tokens)) if tokens[i].text in texts), None)
+    if found is None:
+        raise Refused(f"{tokens[at].line}: no {' or '.join(texts)} follows")
+    return found
 
 
 def closing(tokens, at):
@@ -131,23 +123,17 @@ def closing(tokens, at):
             depth += {opens: 1, closes: -1}.get(tokens[i].text, 0)
         if depth == 0:
             return i
-    raise Refused(f"{opens} isn't closed")
+    raise Refused(f"{tokens[at].line}: {opens} isn't closed")
 
 
-def after_angles(tokens, at):
-    """The index after the `>` that closes the `<` at `at`."""
-    depth = 0
-    while True:
-        depth += {"<": 1, ">": -1}.get(tokens[at].text, 0)
-        at += 1
-        if depth == 0:
-            return at
+def put(tokens, start, end, text):
+    """Puts the tokens of a text in the place of some, after what stood before these, and returns how many there are."""
+    new = [it._replace(line=tokens[start].line) for it in lex(text)[:-1]]
+    if start < end:
+        new[0] = new[0]._replace(lead=tokens[start].lead)
+    tokens[start:end] = new
+    return len(new)
 
 
 def text_of(tokens):
-    return "".join(it.text for it in tokens)
-
-
-def made(text, line=0):
-    """Tokens that a rule writes."""
-    return [it._replace(line=line) for it in lex(text)]
+    return "".join(it.lead + it.text for it in tokens)

@@ -70,6 +70,8 @@ WRITES = [
 ]
 ENDS = [
     ("an attribute", "fn f() {}\n#[no_mangle] fn g() {}", "2: the attribute no_mangle"),
+    ("an attribute without an end", "fn f() {}\n#[cold fn g() {}", "2: [ isn't closed"),
+    ("a trait without a body", "\ntrait A: B", "2: no { follows"),
     ("a macro", "fn f() {\nasm!() }", "2: the macro asm!"),
     ("a derive", "\n\n#[derive(Clone, Zeroize)] struct S;", "3: the derive Zeroize"),
     ("a drop of an unknown type", "\nimpl Drop for New { fn drop(self) { let New { a } = self; a.end(); } }",

@@ -153,24 +153,35 @@ impl EvictionConfig {
     }
 }
 
-// A fraction as exact as 32 bits allow: a number with at most nine decimals is met. One that is negative or not a number
-// has the denominator 0, which the check refuses (F2).
+// The fraction of at most nine decimals that is this number, or else its best approximation of 32 bits. A number that is
+// negative or none has the denominator 0, which the check refuses (F2).
 fn ratio(number: f64) -> Ratio {
-    if !(0.0..=f64::from(u32::MAX)).contains(&number) {
+    if !(0.0..=MOST).contains(&number) {
         return Ratio { num: 0, den: 0 };
     }
-    let mut best = Ratio { num: number.round() as u32, den: 1 };
-    for den in (1..10).map(|digits| 10u32.pow(digits)) {
-        let num = (number * f64::from(den)).round();
-        if f64::from(best.num) / f64::from(best.den) == number || num > f64::from(u32::MAX) {
+    let decimals = (0..10).map(|digits| 10f64.powi(digits)).map(|den| ((number * den).round(), den));
+    let exact = decimals.take_while(|it| it.0 <= MOST).find(|it| it.0 / it.1 == number);
+    let (num, den) = exact.unwrap_or_else(|| convergent(number));
+    Ratio { num: num as u32, den: den as u32 }
+}
+
+const MOST: f64 = u32::MAX as f64;
+
+// The first convergent of a number's continued fraction that is the number, or the last one that 32 bits allow.
+fn convergent(number: f64) -> (f64, f64) {
+    let (mut before, mut best, mut rest) = ((1.0, 0.0), (number.floor(), 1.0), number);
+    while best.0 / best.1 != number {
+        rest = 1.0 / rest.fract();
+        let next = (rest.floor() * best.0 + before.0, rest.floor() * best.1 + before.1);
+        if next.0.max(next.1) > MOST {
             break;
         }
-        best = Ratio { num: num as u32, den };
+        (before, best) = (best, next);
     }
     best
 }
 
 // A number of rows or buckets: rounded up, and 0, which the check refuses, for what is none.
 fn count(number: f64) -> u64 {
-    if number > 0.0 { number.ceil().min(f64::from(u32::MAX)) as u64 } else { 0 }
+    if number > 0.0 { number.ceil().min(MOST) as u64 } else { 0 }
 }

@@ -1,6 +1,7 @@
 //! Upstream's names for its own tests, over this crate: modules, and a cache with its policy as a type.
 #![allow(dead_code, unused_imports)]
 
+extern crate alloc;
 extern crate self as foyer_common;
 
 pub mod hasher {
@@ -67,42 +68,7 @@ pub mod eviction {
     pub mod test_utils {
         use luffapricot::{Age, Hint, Location, Properties};
 
-        #[derive(Clone, Debug, Default)]
-        pub struct TestProperties(bool, Hint);
-
-        impl Properties for TestProperties {
-            fn with_phantom(self, phantom: bool) -> Self {
-                TestProperties(phantom, self.1)
-            }
-
-            fn phantom(&self) -> Option<bool> {
-                Some(self.0)
-            }
-
-            fn with_hint(self, hint: Hint) -> Self {
-                TestProperties(self.0, hint)
-            }
-
-            fn hint(&self) -> Option<Hint> {
-                Some(self.1)
-            }
-
-            fn with_location(self, _: Location) -> Self {
-                self
-            }
-
-            fn location(&self) -> Option<Location> {
-                None
-            }
-
-            fn with_age(self, _: Age) -> Self {
-                self
-            }
-
-            fn age(&self) -> Option<Age> {
-                None
-            }
-        }
+        include!("test_properties.rs");
     }
 }
 
@@ -230,4 +196,112 @@ pub mod cache {
 
     #[cfg(upstream)]
     include!("cache_tests.rs");
+}
+
+/// The crate `lru`'s names for its tests, over a cache of one shard.
+pub mod lru {
+    use luffapricot::{Cache, CacheBuilder, Equivalent, Key, LruConfig, Value};
+    use std::hash::Hash;
+    use std::sync::Arc;
+
+    pub struct LruCache<K: Key, V: Value>(Cache<K, Arc<V>>);
+
+    // What a cache lends for as long as a test likes.
+    fn lent<T>(value: T) -> &'static T {
+        Box::leak(Box::new(value))
+    }
+
+    impl<K: Key, V: Value> LruCache<K, V> {
+        pub fn new(capacity: usize) -> Self {
+            let config = LruConfig { high_priority_pool_ratio: 1.0 };
+            LruCache(CacheBuilder::new(capacity).with_shards(1).with_eviction_config(config).build())
+        }
+
+        pub fn unbounded() -> Self {
+            Self::new(usize::MAX)
+        }
+
+        /// Returns the old value unless it was lent.
+        pub fn put(&mut self, key: K, value: V) -> Option<V> {
+            let old = self.0.remove(&key).map(|entry| Arc::clone(&entry));
+            self.0.put(key, Arc::new(value));
+            old.and_then(Arc::into_inner)
+        }
+
+        pub fn get<Q: Hash + Equivalent<K> + ?Sized>(&mut self, key: &Q) -> Option<&V> {
+            self.0.get_cloned(key).map(|value| &**lent(value))
+        }
+
+        pub fn get_or_insert(&mut self, key: K, make: impl FnOnce() -> V) -> Option<&V> {
+            Some(&**lent(Arc::clone(&self.0.get_or_insert_with(&key, || Arc::new(make())))))
+        }
+
+        pub fn peek<Q: Hash + Equivalent<K> + ?Sized>(&self, key: &Q) -> Option<&V> {
+            self.0.peek(key, Arc::clone).map(|value| &**lent(value))
+        }
+
+        pub fn contains<Q: Hash + Equivalent<K> + ?Sized>(&self, key: &Q) -> bool {
+            self.0.contains(key)
+        }
+
+        pub fn len(&self) -> usize {
+            self.0.entries()
+        }
+
+        pub fn is_empty(&self) -> bool {
+            self.len() == 0
+        }
+
+        pub fn cap(&self) -> usize {
+            self.0.capacity()
+        }
+
+        pub fn resize(&mut self, capacity: usize) {
+            self.0.resize(capacity).unwrap();
+        }
+
+        pub fn clear(&mut self) {
+            self.0.clear();
+        }
+
+        fn all(&self) -> Vec<(K, Arc<V>)> {
+            let mut all = Vec::new();
+            self.0.for_each(|key, value| all.push((key.clone(), Arc::clone(value))));
+            all
+        }
+
+        /// The records, the one used last first.
+        pub fn iter(&self) -> std::vec::IntoIter<(&K, &V)> {
+            let pairs: Vec<(&K, &V)> = self.all().into_iter().rev().map(lent).map(|pair| (&pair.0, &*pair.1)).collect();
+            pairs.into_iter()
+        }
+
+        pub fn peek_lru(&self) -> Option<(&K, &V)> {
+            self.iter().next_back()
+        }
+    }
+
+    impl<K: Key, V: Value + Clone> LruCache<K, V> {
+        pub fn pop_entry<Q: Hash + Equivalent<K> + ?Sized>(&mut self, key: &Q) -> Option<(K, V)> {
+            self.0.remove(key).map(|entry| (entry.key().clone(), V::clone(&entry)))
+        }
+
+        pub fn pop<Q: Hash + Equivalent<K> + ?Sized>(&mut self, key: &Q) -> Option<V> {
+            self.pop_entry(key).map(|pair| pair.1)
+        }
+
+        pub fn pop_lru(&mut self) -> Option<(K, V)> {
+            let key = self.all().first()?.0.clone();
+            self.pop_entry(&key)
+        }
+
+        #[allow(clippy::should_implement_trait)]
+        pub fn into_iter(self) -> std::vec::IntoIter<(K, V)> {
+            let pairs: Vec<(K, V)> = self.all().into_iter().map(|(key, value)| (key, V::clone(&value))).collect();
+            pairs.into_iter()
+        }
+    }
+
+    #[cfg(lru)]
+    include!("lru_tests.rs");
 }
