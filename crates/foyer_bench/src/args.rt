@@ -40,6 +40,15 @@ pub enum Hasher {
     Default,
 }
 
+/// By which calls a cache behind locks is driven.
+#[derive(Clone, Copy, Debug, PartialEq, Eq)]
+pub enum Calls {
+    /// `get` and `insert`, whose entries are dropped at once.
+    Get,
+    /// `read` and `put`, which make no entry.
+    Read,
+}
+
 /// An exponent of Zipf's law, `num / den`. With 0 all ranks weigh the same.
 #[derive(Clone, Copy, Debug, PartialEq, Eq)]
 pub struct Skew {
@@ -52,6 +61,8 @@ pub struct Skew {
 pub struct BenchArgs {
     /// How many threads share a cache behind locks. Where it is `None`, a core is run over.
     pub threads: Option<u64>,
+    /// By which calls they drive it.
+    pub calls: Calls,
     /// The policy of the cache.
     pub policy: Policy,
     /// The weight that its records may have together.
@@ -111,6 +122,7 @@ fn args_of(threads: Option<u64>, words: &[String]) -> Option<BenchArgs> {
     };
     let args = BenchArgs {
         threads,
+        calls: Calls::Get,
         policy: policy_of(policy.as_str())?,
         capacity: number_of(capacity.as_str())?,
         shards: some_of(shards.as_str())?,
@@ -136,6 +148,7 @@ fn with_options(mut args: BenchArgs, words: &[String]) -> Option<BenchArgs> {
         option = "";
         match (asked, word) {
             ("", "--hits") => args.hits_alone = true,
+            ("", "--read") if args.threads.is_some() => args.calls = Calls::Read,
             ("", _) => option = word,
             ("--reps", _) => args.reps = some_of(word)?,
             ("--hasher", _) => args.hasher = hasher_of(word)?,

@@ -1,5 +1,6 @@
 //! Runs of threads over a cache that they share: what is not found is put in.
 
+use crate::args::Calls;
 use crate::failure::Failure;
 use crate::moment::Moment;
 use crate::report::Report;
@@ -16,6 +17,9 @@ pub trait SharedCache: Drop {
     /// Looks a key up at a moment, and puts it in where it is not found, as its own value. Answers whether it was found.
     fn look_up(&self, moment: Moment, key: u64) -> Result<bool>;
 
+    /// Looks a key up as `look_up` does, by calls that make no entry.
+    fn read_up(&self, moment: Moment, key: u64) -> Result<bool>;
+
     /// The sum of the weights that are in.
     fn usage(&self) -> u128;
 }
@@ -27,6 +31,15 @@ impl<H: Wait + Drop, E: Eviction, S: HashBuilder> SharedCache for RawCache<H, E,
         }
         let properties = CacheProperties::default().with_expiry(moment.expiry());
         drop(self.insert_with_properties(moment.now(), key, key, properties)?);
+        Ok(false)
+    }
+
+    fn read_up(&self, moment: Moment, key: u64) -> Result<bool> {
+        if self.read(moment.now(), &key, |value| *value)?.is_some() {
+            return Ok(true);
+        }
+        let properties = CacheProperties::default().with_expiry(moment.expiry());
+        self.put_with_properties(moment.now(), key, key, properties)?;
         Ok(false)
     }
 
@@ -42,6 +55,7 @@ pub fn run_threads<R: Clock + Threads + Sync, C: SharedCache + Sync>(
     rt: &R,
     alloc: Global,
     cache: C,
+    calls: Calls,
     traces: &[Vec<u64>],
     first: Moment,
 ) -> std::result::Result<Report, Failure> {
@@ -50,7 +64,7 @@ pub fn run_threads<R: Clock + Threads + Sync, C: SharedCache + Sync>(
         rt,
         alloc,
         traces.len(),
-        &|place| drive(&cache, &traces[place], first).ok(),
+        &|place| drive(&cache, calls, &traces[place], first).ok(),
     );
     let time = start.elapsed(rt)?;
     let mut ops = 0usize;
@@ -69,11 +83,20 @@ pub fn run_threads<R: Clock + Threads + Sync, C: SharedCache + Sync>(
 
 /// Looks each key up, the first at this moment, and puts in each that is not found. Answers how many keys were found.
 /// Refused where a key is: it and the keys after it are left out.
-pub fn drive<C: SharedCache>(cache: &C, keys: &Vec<u64>, first: Moment) -> Result<usize> {
+pub fn drive<C: SharedCache>(
+    cache: &C,
+    calls: Calls,
+    keys: &Vec<u64>,
+    first: Moment,
+) -> Result<usize> {
     let mut hits = 0usize;
     let mut moment = first;
     for key in keys {
-        if cache.look_up(moment, *key)? {
+        let is_found = match calls {
+            Calls::Get => cache.look_up(moment, *key)?,
+            Calls::Read => cache.read_up(moment, *key)?,
+        };
+        if is_found {
             hits = hits.wrapping_add(1);
         }
         moment = moment.next();

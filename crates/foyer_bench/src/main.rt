@@ -42,7 +42,7 @@ fn main(rt: HostRuntime) -> ExitCode {
     let is_terminal = rt.stderr().is_terminal();
     match words_of(&rt) {
         Ok(words) => answer(&rt, words.as_slice(), is_terminal),
-        Err(failure) => fail(&rt, failure, ""),
+        Err(failure) => fail(&rt, failure, ["", ""]),
     }
 }
 
@@ -68,16 +68,17 @@ fn answer<R: AllocGlobal + Clock + Print + Eprint + Threads + Wait + Sync>(
 ) -> ExitCode {
     match run(rt, words, is_terminal) {
         Ok(()) => ExitCode::SUCCESS,
-        Err(failure) if are_locked(words) => fail(rt, failure, "--locked THREADS "),
-        Err(failure) => fail(rt, failure, ""),
+        Err(failure) if are_locked(words) => fail(rt, failure, ["--locked THREADS ", " [--read]"]),
+        Err(failure) => fail(rt, failure, ["", ""]),
     }
 }
 
-// Says on standard error why the program ends, and how it is called where its arguments are bad.
-fn fail<R: Eprint>(rt: &R, failure: Failure, locked: &str) -> ExitCode {
+// Says on standard error why the program ends, and how it is called where its arguments are bad: with these words before
+// and after the others.
+fn fail<R: Eprint>(rt: &R, failure: Failure, [first, last]: [&str; 2]) -> ExitCode {
     // The status says it where standard error can't.
     let _ = match &failure {
-        Failure::Arguments => eprintln!(rt; "usage: foyer-bench {locked}{WORDS}"),
+        Failure::Arguments => eprintln!(rt; "usage: foyer-bench {first}{WORDS}{last}"),
         Failure::Memory => eprintln!(rt; "foyer-bench: out of memory"),
         Failure::InputOrOutput(error) => {
             eprintln!(rt; "foyer-bench: input or output failed: {error}")
@@ -119,16 +120,12 @@ fn run_once<R: AllocGlobal + Clock + Eprint + Threads + Wait + Sync>(
         (None, Hasher::Mod) => on_policy::<R, ModHasher>(rt, args, traces, progress),
         (None, Hasher::Default) => on_policy::<R, DefaultHasher>(rt, args, traces, progress),
         (Some(_), Hasher::Mod) => {
-            run_threads(rt, alloc, shared::<R, ModHasher>(rt, args)?, traces, first)
+            let cache = shared::<R, ModHasher>(rt, args)?;
+            run_threads(rt, alloc, cache, args.calls, traces, first)
         }
         (Some(_), Hasher::Default) => {
-            run_threads(
-                rt,
-                alloc,
-                shared::<R, DefaultHasher>(rt, args)?,
-                traces,
-                first,
-            )
+            let cache = shared::<R, DefaultHasher>(rt, args)?;
+            run_threads(rt, alloc, cache, args.calls, traces, first)
         }
     }
 }

@@ -3,7 +3,7 @@
 use crate::testing::{Cache, Entry, Outcome, Target, at_once, finish};
 use foyer_core::{Answers, CacheCore, CoreEntry, Ended, Inserted, Leave, Lookup};
 use foyer_memory::{CacheProperties, Eviction, FetchTarget};
-use foyer_policy::{ModHasher, Source};
+use foyer_policy::{ModHasher, Properties, Source};
 use foyer_raw::ListSpawner;
 use foyer_raw_tests::notes::{Note, Notes};
 use futures::future::ready;
@@ -11,6 +11,7 @@ use std::alloc::Global;
 use std::random::RandomSource;
 use std::sync::Wait;
 
+mod no_entry;
 mod runs;
 
 type One<E> = CacheCore<E, u32, u64, CacheProperties, ModHasher>;
@@ -42,10 +43,12 @@ struct Both<H: Wait + Drop, E: Eviction> {
 }
 
 // The properties of a record with this value, which is the number of the call that puts it in: of two records one expires,
-// some calls later.
+// some calls later, and of seven one is a phantom.
 fn properties(value: u64) -> CacheProperties {
     let expires = (value % 2 == 1).then(|| value / 4 + 4 + value % 8);
-    CacheProperties::default().with_expiry(expires)
+    CacheProperties::default()
+        .with_expiry(expires)
+        .with_phantom(value % 7 == 3)
 }
 
 // What a fetch of this value gives.
@@ -97,15 +100,22 @@ impl<H: Wait + RandomSource + Alloc<A = Global> + Copy + Drop + 'static, E: Evic
         };
         self.held.push((entry, kept))?;
         if self.held.len() > 8 {
-            let (entry, mut kept) = self.held.remove(0);
+            let (entry, kept) = self.held.remove(0);
             drop(entry);
-            if let Some(handle) = kept.0.take() {
-                if let Some((event, left)) = self.core.drop_entry(handle) {
-                    self.left.push(Note::of(event, left.key(), left.value()))?;
-                }
-            }
+            self.give_back(kept)?;
         }
         Ok(same)
+    }
+
+    // Gives a handle of the core back.
+    fn give_back(&mut self, mut kept: Kept) -> Outcome {
+        let Some(handle) = kept.0.take() else {
+            return Ok(());
+        };
+        if let Some((event, left)) = self.core.drop_entry(handle) {
+            self.left.push(Note::of(event, left.key(), left.value()))?;
+        }
+        Ok(())
     }
 
     // The same of two that may be missing, but both or none.
@@ -215,7 +225,8 @@ impl<H: Wait + RandomSource + Alloc<A = Global> + Copy + Drop + 'static, E: Evic
             3 => Ok(self.cache.touch(now, &key)? == self.core.touch(now, &key)?),
             4 => Ok(self.cache.contains(now, &key) == self.core.contains(now, &key)),
             5 => self.remove(key),
-            _ => self.fetch(rt, key, value),
+            6 | 7 => self.fetch(rt, key, value),
+            _ => self.without_entry(pick, key, value),
         }
     }
 

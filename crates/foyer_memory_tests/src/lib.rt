@@ -14,6 +14,8 @@ mod guide;
 #[cfg(test)]
 mod moments;
 #[cfg(test)]
+mod no_entry;
+#[cfg(test)]
 mod of;
 #[cfg(test)]
 mod pieces;

@@ -13,6 +13,7 @@ pub type Removed = Piece<u64, u64, CacheProperties>;
 #[derive(Clone, Copy)]
 pub enum Call {
     Insert,
+    Put,
     InsertPiece,
     Fetch,
     Resize(usize),
@@ -29,6 +30,7 @@ impl Call {
         let (key, value) = (*piece.key(), *piece.value());
         match self {
             Call::Insert => drop(cache.insert(now, key, value)?),
+            Call::Put => cache.put(now, key, value)?,
             Call::InsertPiece => drop(cache.insert_piece(now, piece)?),
             Call::Fetch => {
                 let mut led = Led { task: None };

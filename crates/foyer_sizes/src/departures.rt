@@ -17,6 +17,7 @@ pub fn run<H: Runtime>(cases: &mut Cases<H>) -> Outcome {
     let all = Told::evicted(RECORDS);
     for (name, call, told) in [
         ("an insert evicts 20,000", Call::Insert, all),
+        ("a put evicts 20,000", Call::Put, all),
         ("a piece evicts 20,000", Call::InsertPiece, all),
         ("a fetch evicts 20,000", Call::Fetch, all),
         (

@@ -21,6 +21,10 @@ pub fn run<H: Runtime>(cases: &mut Cases<H>) -> Outcome {
         |config| counts_each(rt, config),
     )?;
     cases.of_each_policy(
+        "70,000 handles beside calls that make no entry",
+        |config| counts_none(rt, config),
+    )?;
+    cases.of_each_policy(
         "70,000 handles of a phantom",
         |config| keeps_a_phantom(rt, config),
     )?;
@@ -67,6 +71,49 @@ fn counts_each<H: Runtime>(rt: H, config: EvictionConfig) -> Outcome {
     same(rt, "value", &*first, &1)?;
     drop(first);
     same(rt, "told", &heard.take(), &Told::removed(1))
+}
+
+// Calls that make no entry leave the handles as they are, and no handle of their own.
+fn counts_none<H: Runtime>(rt: H, config: EvictionConfig) -> Outcome {
+    let heard = Heard::new(rt.alloc(), 100)?;
+    let cache = cache(rt, 100, 1, config, &heard)?;
+    let first = cache.insert(0, KEY, 1)?;
+    let entries = more(rt, &cache, &first)?;
+    let hits = cache.stats().hits;
+    for _ in 0..HANDLES {
+        let read = cache.read(0, &KEY, |value| *value)?;
+        same(
+            rt,
+            "values",
+            &(read, cache.peek(0, &KEY, |value| *value)),
+            &(Some(1), Some(1)),
+        )?;
+    }
+    same(rt, "hits", &(cache.stats().hits - hits), &(HANDLES as u64))?;
+    same(rt, "handles", &first.refs(), &(HANDLES + 1))?;
+    cache.put(0, KEY, 2)?;
+    same(rt, "is outdated", &first.is_outdated(), &true)?;
+    same(
+        rt,
+        "handles of the new one",
+        &cache.get(0, &KEY)?.ok_or(Failure::Differs)?.refs(),
+        &1,
+    )?;
+    same(
+        rt,
+        "deleted",
+        &(cache.delete(&KEY)?, cache.delete(&KEY)?),
+        &(true, false),
+    )?;
+    same(rt, "handles", &(first.refs(), *first), &(HANDLES + 1, 1))?;
+    drop(entries);
+    same(rt, "handles", &first.refs(), &1)?;
+    let told = Told {
+        replaced: 1,
+        removed: 1,
+        ..Told::default()
+    };
+    same(rt, "told", &heard.take(), &told)
 }
 
 // A phantom leaves with the last of its handles.

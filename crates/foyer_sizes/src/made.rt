@@ -5,8 +5,9 @@ use crate::calls::at_once;
 use crate::case::{Cases, Failure, Outcome, Runtime, same};
 use crate::heard::{Ear, Heard, Told};
 use crate::moments::NOW;
+use foyer_core::CacheProperties;
 use foyer_memory::{CacheBuilder, EvictionConfig, Kind, LruConfig, S3FifoConfig};
-use foyer_policy::Fault;
+use foyer_policy::{Fault, Properties};
 
 const SHARDS: usize = 65;
 
@@ -19,6 +20,7 @@ const LIFE: u64 = (1 << 50) + 1;
 #[derive(Clone, Copy)]
 enum Way {
     Make,
+    MakeWithExpiry,
     Fetch,
     Task,
 }
@@ -27,6 +29,10 @@ pub fn run<H: Runtime>(cases: &mut Cases<H>) -> Outcome {
     let rt = cases.rt;
     for (name, way) in [
         ("a value is made in each of 65 shards", Way::Make),
+        (
+            "a value is made with its expiry in each of 65 shards",
+            Way::MakeWithExpiry,
+        ),
         ("a value is fetched in each of 65 shards", Way::Fetch),
         (
             "a value is fetched by a task in each of 65 shards",
@@ -42,12 +48,17 @@ pub fn run<H: Runtime>(cases: &mut Cases<H>) -> Outcome {
     )
 }
 
-fn living<H: Runtime>(rt: H, config: EvictionConfig, heard: &Heard) -> Outcome<Cache<H>> {
+fn living<H: Runtime>(
+    rt: H,
+    config: EvictionConfig,
+    life: u64,
+    heard: &Heard,
+) -> Outcome<Cache<H>> {
     Ok(
         CacheBuilder::new(SHARDS * 1000)
             .with_shards(SHARDS)
             .with_eviction_config(config)
-            .with_time_to_live(LIFE)
+            .with_time_to_live(life)
             .with_hash_builder(Seeded { seed: SEED })
             .with_weighter(ByValue)
             .with_event_listener(Ear(heard.share()?))
@@ -68,6 +79,12 @@ impl Way {
         let fetch = Fetch::Now(Some(target(value)));
         Ok(match self {
             Way::Make => *cache.get_or_insert_with(now, &key, || Ok(value))?,
+            Way::MakeWithExpiry => {
+                let properties = CacheProperties::default().with_expiry(Some(now.saturating_add(
+                    LIFE,
+                )));
+                *cache.get_or_insert_with_properties(now, &key, || Ok((value, properties)))?
+            }
             Way::Fetch => *cache.get_or_fetch_blocking(now, &key, fetch)?,
             Way::Task => {
                 let mut led = Led { task: None };
@@ -84,7 +101,12 @@ impl Way {
 // Each is made once while it lives, and again from the moment on at which it has expired.
 fn comes_in<H: Runtime>(rt: H, config: EvictionConfig, way: Way) -> Outcome {
     let heard = Heard::new(rt.alloc(), KEYS)?;
-    let cache = living(rt, config, &heard)?;
+    // A value's own expiry counts, and not the cache's time to live.
+    let life = match way {
+        Way::MakeWithExpiry => 0,
+        _ => LIFE,
+    };
+    let cache = living(rt, config, life, &heard)?;
     for (now, made, wanted) in [
         (NOW, 1, 1),
         (NOW, 2, 1),
@@ -128,7 +150,7 @@ fn assert_hits<H: Runtime>(rt: H, cache: &Cache<H>, now: u64, key: u64, wanted: 
 // A maker that fails has the miss counted, and the next one is asked.
 fn fails<H: Runtime>(rt: H, config: EvictionConfig) -> Outcome {
     let heard = Heard::new(rt.alloc(), KEYS)?;
-    let cache = living(rt, config, &heard)?;
+    let cache = living(rt, config, LIFE, &heard)?;
     for key in 0..KEYS {
         let failed = cache.get_or_insert_with(
             NOW,
@@ -158,7 +180,7 @@ fn kinds<H: Runtime>(rt: H, config: EvictionConfig) -> Outcome {
         EvictionConfig::Sieve(_) => Kind::Sieve,
     };
     let heard = Heard::new(rt.alloc(), KEYS)?;
-    let cache = living(rt, config, &heard)?;
+    let cache = living(rt, config, LIFE, &heard)?;
     let entry = cache.insert(NOW, 1, 1)?;
     let mut led = Led { task: None };
     let look = cache.get_or_fetch(NOW, &2, || Fetch::Now(None), &mut led)?;

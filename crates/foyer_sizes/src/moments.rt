@@ -20,6 +20,10 @@ const HEAVY: u64 = RECORDS;
 enum Query {
     Contains,
     Get,
+    Read,
+    Peek,
+    GetCopied,
+    GetCloned,
     Touch,
     Fetch,
 }
@@ -28,6 +32,7 @@ pub fn run<H: Runtime>(cases: &mut Cases<H>) -> Outcome {
     let rt = cases.rt;
     for (name, call) in [
         ("an insert evicts what is expired first", Call::Insert),
+        ("a put evicts what is expired first", Call::Put),
         ("a piece evicts what is expired first", Call::InsertPiece),
         ("a fetch evicts what is expired first", Call::Fetch),
         (
@@ -42,6 +47,10 @@ pub fn run<H: Runtime>(cases: &mut Cases<H>) -> Outcome {
     for (name, query) in [
         ("contains misses what is expired", Query::Contains),
         ("get misses what is expired", Query::Get),
+        ("read misses what is expired", Query::Read),
+        ("peek misses what is expired", Query::Peek),
+        ("get_copied misses what is expired", Query::GetCopied),
+        ("get_cloned misses what is expired", Query::GetCloned),
         ("touch misses what is expired", Query::Touch),
         ("get_or_fetch misses what is expired", Query::Fetch),
     ] {
@@ -106,6 +115,10 @@ impl Query {
         Ok(match self {
             Query::Contains => cache.contains(now, &key),
             Query::Get => cache.get(now, &key)?.is_some(),
+            Query::Read => cache.read(now, &key, |value| *value)? == Some(1),
+            Query::Peek => cache.peek(now, &key, |value| *value) == Some(1),
+            Query::GetCopied => cache.get_copied(now, &key)? == Some(1),
+            Query::GetCloned => cache.get_cloned(now, &key)? == Some(1),
             Query::Touch => cache.touch(now, &key)?,
             Query::Fetch => {
                 let fetch = || Fetch::Now(Some(target(1)));

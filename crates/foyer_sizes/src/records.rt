@@ -24,7 +24,7 @@ fn holds_all<H: Runtime>(rt: H, config: EvictionConfig) -> Outcome {
     for key in 0..RECORDS {
         let expiry = if key % 2 == 0 { Some(NOW + key) } else { None };
         let properties = CacheProperties::default().with_expiry(expiry);
-        drop(cache.insert_with_properties(NOW - 1, key, 1, properties)?);
+        cache.put_with_properties(NOW - 1, key, 1, properties)?;
     }
     let all = (RECORDS as u128, RECORDS as u128);
     same(rt, "sums", &(cache.entries(), cache.usage()), &all)?;

@@ -54,6 +54,11 @@ fn of<H: Runtime>(cases: &mut Cases<H>, shards: u64) -> Outcome {
         shards,
         |config| counts(rt, config, shards),
     )?;
+    cases.of_shards(
+        "is put to and deleted from, some of them empty",
+        shards,
+        |config| puts(rt, config, shards),
+    )?;
     cases.of_shards("gets its part of what is left over", shards, |config| {
         shares_out(rt, config, shards)
     })?;
@@ -192,6 +197,42 @@ fn counts<H: Runtime>(rt: H, config: EvictionConfig, shards: u64) -> Outcome {
     }
     cache.evict_all(0)?;
     same(rt, "evictions", &cache.stats().evictions, &all)
+}
+
+// Each key is put twice and read; those of even keys are deleted.
+fn puts<H: Runtime>(rt: H, config: EvictionConfig, shards: u64) -> Outcome {
+    let heard = Heard::new(rt.alloc(), KEYS)?;
+    let (cache, _) = sparse(rt, config, shards, &heard)?;
+    let (all, even) = (count_of(shards, 1), count_of(shards, 2));
+    cache.reset_stats();
+    for key in (0..KEYS).filter(|key| is_in(*key, shards)) {
+        cache.put(0, key, 2)?;
+    }
+    for key in 0..KEYS {
+        let wanted = is_in(key, shards).then_some(2);
+        same(rt, "read", &cache.read(0, &key, |value| *value)?, &wanted)?;
+        if key % 2 == 0 {
+            same(rt, "deleted", &cache.delete(&key)?, &wanted.is_some())?;
+            same(rt, "peeked", &cache.peek(0, &key, |value| *value), &None)?;
+        }
+    }
+    let stats = cache.stats();
+    let counted = (
+        stats.inserts,
+        stats.replaced,
+        stats.removed,
+        stats.hits,
+        stats.misses,
+    );
+    same(rt, "counted", &counted, &(all, all, even, all, KEYS - all))?;
+    let sums = (u128::from(all - even), u128::from(2 * (all - even)));
+    same(rt, "sums", &(cache.entries(), cache.usage()), &sums)?;
+    let told = Told {
+        replaced: all,
+        removed: even,
+        ..Told::default()
+    };
+    same(rt, "told", &heard.take(), &told)
 }
 
 // What is left over of a capacity goes to the first shards.

@@ -31,9 +31,12 @@ fn holds_what_fits<H: Runtime>(rt: H, config: EvictionConfig) -> Outcome {
     let cache = cache(rt, SHARDS * FIT * WEIGHT, SHARDS, config, &heard)?;
     same(rt, "capacity", &cache.capacity(), &(SHARDS * FIT * WEIGHT))?;
     for key in 0..42u64 {
-        let entry = cache.insert(0, key, WEIGHT as u64)?;
-        same(rt, "weight", &entry.weight(), &WEIGHT)?;
-        drop(entry);
+        if key % 2 == 0 {
+            let entry = cache.insert(0, key, WEIGHT as u64)?;
+            same(rt, "weight", &entry.weight(), &WEIGHT)?;
+        } else {
+            cache.put(0, key, WEIGHT as u64)?;
+        }
         let entries = (key as usize + 1).min(SHARDS * FIT);
         same(rt, "entries", &cache.entries(), &(entries as u128))?;
         same(rt, "usage", &cache.usage(), &((entries * WEIGHT) as u128))?;

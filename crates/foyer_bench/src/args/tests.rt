@@ -15,6 +15,7 @@ fn asked(alloc: Global, text: &str) -> Result<Option<BenchArgs>, Fail> {
 fn all_arguments(rt: HostRuntime) -> Result<(), Fail> {
     let core = BenchArgs {
         threads: None,
+        calls: Calls::Get,
         policy: Policy::S3Fifo,
         capacity: 10,
         shards: 2,
@@ -39,6 +40,12 @@ fn all_arguments(rt: HostRuntime) -> Result<(), Fail> {
     };
     let text = "--locked 4 s3fifo 10 2 100 50 0.9 7";
     assert_eq!(rt; asked(rt.alloc(), text)?, Some(plain));
+    let reading = BenchArgs {
+        calls: Calls::Read,
+        ..plain
+    };
+    let text = "--locked 4 s3fifo 10 2 100 50 0.9 7 --read";
+    assert_eq!(rt; asked(rt.alloc(), text)?, Some(reading));
     Ok(())
 }
 
@@ -81,6 +88,7 @@ fn bad_arguments(rt: HostRuntime) -> Result<(), Fail> {
         "fifo 10 1 100 50 0.9 1 --ttl-few x",
         "fifo 10 1 100 50 0.9 1 --fast 1",
         "fifo 10 1 100 50 0.9 1 --fast",
+        "fifo 10 1 100 50 0.9 1 --read",
         "--locked",
         "--locked 0 fifo 10 1 100 50 0.9 1",
         "--locked fifo 10 1 100 50 0.9 1",

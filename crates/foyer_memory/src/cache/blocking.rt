@@ -49,6 +49,29 @@ where
             kind: self.kind,
         })
     }
+
+    /// Returns an entry of the key's record as `get_or_insert_with` does. The closure returns the properties too, such as
+    /// the value's own expiry.
+    ///
+    /// # Errors
+    /// Those of `get_or_insert_with`.
+    pub fn get_or_insert_with_properties<F>(
+        &self,
+        now: u64,
+        key: &K,
+        make: F,
+    ) -> Result<CacheEntry<H, K, V, S, P, W, A, L, Q, T, I>>
+    where
+        F: FnOnce() -> std::result::Result<(V, P), Fault>,
+        requires clones { (k c : K) → K.is_clone k c → K.eq c k ≡ true }
+        requires callable { F.IsAlwaysCallable make }
+        ensures kind { IfOk result (λ e. e.kind ≡ self.now.kind) }
+    {
+        Ok(CacheEntry {
+            entry: self.cache.get_or_insert_with_properties(now, key, make)?,
+            kind: self.kind,
+        })
+    }
 }
 
 impl<H, K, V, S, P, W, A, L, Q, R, I> Cache<H, K, V, S, P, W, A, L, Q, Direct<R>, I>

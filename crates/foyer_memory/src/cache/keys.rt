@@ -1,7 +1,9 @@
 //! Look-ups by a key.
 
 ghost use Rattle.std.specs.Prelude.{◌≡◌, IfOk, IfSome, false, true};
+ghost use Rattle.std.specs.Fn.{FnOnceReturnsAt};
 ghost use Rattle.foyer_policy.specs.Moments.{is_expired};
+ghost use Rattle.foyer_core.specs.NoEntry.{SeesLive};
 
 use super::Cache;
 use crate::entry::CacheEntry;
@@ -51,6 +53,57 @@ where
         }
     }
 
+    /// Calls `look` with the value that a `get` at `now` would find, counts a use of its record, and returns what `look`
+    /// returned. Makes no entry, and takes one lock.
+    ///
+    /// `look` runs under that lock: it must not call the cache, and should be short.
+    ///
+    /// # Errors
+    /// F9 if the handle count would pass its limit.
+    #[inline(always)]
+    pub fn read<X, F: FnOnce(&V) -> X>(&self, now: u64, key: &K, look: F) -> Result<Option<X>>
+        requires callable { F.IsAlwaysCallable look }
+        ensures { IfOk result (λ found. IfSome found (SeesLive K.eq P.expiry_of now key.now (FnOnceReturnsAt F.FnOnce look))) }
+    {
+        self.cache.read(now, key, look)
+    }
+
+    /// Calls `look` as `read` does, and counts no use. A `peek` isn't counted among hits and misses either.
+    #[inline(always)]
+    pub fn peek<X, F: FnOnce(&V) -> X>(&self, now: u64, key: &K, look: F) -> Option<X>
+        requires callable { F.IsAlwaysCallable look }
+        ensures { IfSome result (SeesLive K.eq P.expiry_of now key.now (FnOnceReturnsAt F.FnOnce look)) }
+    {
+        self.cache.peek(now, key, look)
+    }
+
+    /// Returns a copy of the value that a `get` at `now` would find. This counts as a use, as `read` does.
+    ///
+    /// # Errors
+    /// F9 if the handle count would pass its limit.
+    #[inline(always)]
+    pub fn get_copied(&self, now: u64, key: &K) -> Result<Option<V>>
+    where
+        V: Copy,
+        ensures { IfOk result (λ found. IfSome found (SeesLive K.eq P.expiry_of now key.now (λ value copy. copy ≡ value))) }
+    {
+        self.cache.get_copied(now, key)
+    }
+
+    /// Returns a clone of the value that a `get` at `now` would find, made under the shard's lock. This counts as a use, as
+    /// `read` does.
+    ///
+    /// # Errors
+    /// F9 if the handle count would pass its limit, F7 if the clone fails, which still counts as a use.
+    #[inline(always)]
+    pub fn get_cloned(&self, now: u64, key: &K) -> Result<Option<V>>
+    where
+        V: Clone,
+        ensures { IfOk result (λ found. IfSome found (SeesLive K.eq P.expiry_of now key.now V.is_clone)) }
+    {
+        self.cache.get_cloned(now, key)
+    }
+
     /// Removes the key's record, expired or not, and returns an entry of it. The listener is told of it as `Remove`.
     ///
     /// # Errors
@@ -64,6 +117,15 @@ where
             Some(entry) => Ok(Some(CacheEntry { entry, kind })),
             None => Ok(None),
         }
+    }
+
+    /// Removes the key's record, expired or not, and returns whether there was one. The listener is told of it as `Remove`. Makes
+    /// no entry.
+    ///
+    /// # Errors
+    /// F9 if the handle count would pass its limit.
+    pub fn delete(&self, key: &K) -> Result<bool> {
+        self.cache.delete(key)
     }
 
     /// Returns whether a `get` at `now` finds the key, and if so counts a use of its record. Takes no memory.

@@ -14,10 +14,17 @@ use futures::task::{Context, Poll};
 #[derive(Clone, Copy)]
 pub enum Call {
     Insert(u64, usize),
+    Put(u64, usize),
+    PutPhantom(u64),
     Phantom(u64),
     Piece(u64),
     Get(u64),
     Remove(u64),
+    Delete(u64),
+    Read(u64),
+    Peek(u64),
+    Copied(u64),
+    Cloned(u64),
     Touch(u64),
     Contains(u64),
     Fetch(u64),
@@ -80,6 +87,7 @@ pub fn make<H: Runtime>(
         Call::CloneCache => return Ok(Answer::Cache(cache.try_clone()?)),
         Call::CloneEntry | Call::TakePiece => return asked(locked, call),
         Call::Insert(..) | Call::Phantom(_) | Call::Piece(_) => return inserted(cx, locked, call),
+        Call::Put(..) | Call::PutPhantom(_) => return put(cx, locked, call),
         _ => return found(locked, call),
     }
     Ok(Answer::Done)
@@ -111,14 +119,37 @@ fn inserted<H: Runtime>(
         (_, Some(piece)) => cache.insert_piece(0, piece.clone()?)?,
         _ => return Ok(Answer::Odd),
     };
+    Ok(with_waits(cx, locked, Some(made)))
+}
+
+// The same without an entry.
+fn put<H: Runtime>(cx: &mut Context<'_>, locked: &mut Locked<H>, call: Call) -> Result<Answer<H>> {
+    let cache = &locked.cache;
+    match call {
+        Call::Put(key, weight) => cache.put(0, key, weighing(weight))?,
+        Call::PutPhantom(key) => {
+            let properties = CacheProperties::default().with_phantom(true);
+            cache.put_with_properties(0, key, weighing(1), properties)?;
+        }
+        _ => return Ok(Answer::Odd),
+    }
+    Ok(with_waits(cx, locked, None))
+}
+
+// An entry that was made, and those of the two who waited.
+fn with_waits<H: Runtime>(
+    cx: &mut Context<'_>,
+    locked: &mut Locked<H>,
+    made: Option<Entry<H>>,
+) -> Answer<H> {
     let Some((mut one, mut other)) = locked.waits.take() else {
-        return Ok(Answer::one(made));
+        return Answer::Entries([made, None, None]);
     };
     match (one.poll(cx), other.poll(cx)) {
         (Poll::Ready(Ok(one)), Poll::Ready(Ok(other))) => {
-            Ok(Answer::Entries([Some(made), Some(one), Some(other)]))
+            Answer::Entries([made, Some(one), Some(other)])
         }
-        _ => Ok(Answer::Odd),
+        _ => Answer::Odd,
     }
 }
 
@@ -128,6 +159,10 @@ fn found<H: Runtime>(locked: &mut Locked<H>, call: Call) -> Result<Answer<H>> {
         Call::Get(key) => locked.cache.get(0, &key)?,
         Call::Remove(key) => locked.cache.remove(&key)?,
         Call::Touch(key) => return Ok(yes(locked.cache.touch(0, &key)?)),
+        Call::Delete(key) => return Ok(yes(locked.cache.delete(&key)?)),
+        Call::Read(_) | Call::Peek(_) | Call::Copied(_) | Call::Cloned(_) => {
+            return seen(&locked.cache, call);
+        }
         Call::Contains(key) => return Ok(yes(locked.cache.contains(0, &key))),
         Call::Fetch(key) => match locked.ask(&key, call)?.try_unwrap() {
             Ok(hit) => Some(hit?),
@@ -139,6 +174,18 @@ fn found<H: Runtime>(locked: &mut Locked<H>, call: Call) -> Result<Answer<H>> {
         Some(entry) => Ok(Answer::one(entry)),
         None => Ok(Answer::Odd),
     }
+}
+
+// Looks at the value of a key, without an entry.
+fn seen<H: Runtime>(cache: &Shared<H>, call: Call) -> Result<Answer<H>> {
+    let value = match call {
+        Call::Read(key) => cache.read(0, &key, |value| *value)?,
+        Call::Peek(key) => cache.peek(0, &key, |value| *value),
+        Call::Copied(key) => cache.get_copied(0, &key)?,
+        Call::Cloned(key) => cache.get_cloned(0, &key)?,
+        _ => None,
+    };
+    Ok(yes(value == Some(weighing(1))))
 }
 
 fn yes<H: Runtime>(is_so: bool) -> Answer<H> {

@@ -16,6 +16,11 @@ pub fn row(name: &str) -> Option<(Filled, Call)> {
         "locked_insert_evicts_1" => (FULL, Call::Insert(FETCHED, 1)),
         "locked_insert_evicts_10" => (FULL, Call::Insert(FETCHED, 10)),
         "locked_insert_for_two_who_wait" => (WAITED, Call::Insert(FETCHED, 1)),
+        "locked_put" => (ROOMY, Call::Put(FETCHED, 1)),
+        "locked_put_replaces" => (ROOMY, Call::Put(5, 1)),
+        "locked_put_evicts_10" => (FULL, Call::Put(FETCHED, 10)),
+        "locked_put_for_two_who_wait" => (WAITED, Call::Put(FETCHED, 1)),
+        "locked_put_phantom" => (ROOMY, Call::PutPhantom(FETCHED)),
         "locked_phantom" => (ROOMY, Call::Phantom(5)),
         "locked_resident_piece" => (ROOMY, Call::Piece(5)),
         "locked_piece_comes_back" => (ROOMY, Call::Piece(11)),
@@ -23,6 +28,11 @@ pub fn row(name: &str) -> Option<(Filled, Call)> {
         "locked_foreign_piece" => (ROOMY, Call::Piece(FETCHED)),
         "locked_get" => (ROOMY, Call::Get(5)),
         "locked_remove" => (ROOMY, Call::Remove(5)),
+        "locked_delete" => (ROOMY, Call::Delete(5)),
+        "locked_read" => (ROOMY, Call::Read(5)),
+        "locked_peek" => (ROOMY, Call::Peek(5)),
+        "locked_get_copied" => (ROOMY, Call::Copied(5)),
+        "locked_get_cloned" => (ROOMY, Call::Cloned(5)),
         "locked_touch" => (ROOMY, Call::Touch(5)),
         "locked_contains" => (ROOMY, Call::Contains(5)),
         "locked_lead" => (ROOMY, Call::Fetch(FETCHED)),
@@ -54,6 +64,20 @@ pub fn wanted(filled: Filled, call: Call, victims: &'static [u64; 10]) -> Wanted
     let same = Wanted::same(filled);
     match call {
         Call::Insert(..) | Call::Phantom(_) | Call::Piece(_) => of_insert(filled, call, victims),
+        Call::Put(key, weight) => Wanted {
+            refs: if filled.waits { 2 } else { 1 },
+            ..of_insert(filled, Call::Insert(key, weight), victims)
+        },
+        Call::PutPhantom(_) => Wanted {
+            leaves: &[FETCHED, FETCHED],
+            events: (Event::Remove, Event::Evict),
+            ..same
+        },
+        Call::Delete(_) => Wanted {
+            leaves: &[5],
+            events: (Event::Remove, Event::Remove),
+            ..same
+        },
         Call::Get(_) | Call::Fetch(5) | Call::CloneEntry => Wanted { refs: 2, ..same },
         Call::Remove(_) => Wanted {
             leaves: &[5],

@@ -48,6 +48,27 @@ where
             kind: self.kind,
         })
     }
+
+    /// Returns an entry of the key's record as `get_or_insert_with` does. The closure returns the properties too, such as
+    /// the value's own expiry.
+    ///
+    /// # Errors
+    /// Those of `get_or_insert_with`.
+    #[inline]
+    pub fn get_or_insert_with_properties<F>(
+        &self,
+        now: u64,
+        key: &K,
+        make: F,
+    ) -> Result<CacheEntry<H, K, V, S, P, W, A, L, Q, T, I>>
+    where
+        F: FnOnce() -> crate::rattle_std::result::Result<(V, P), Fault>,
+    {
+        Ok(CacheEntry {
+            entry: self.cache.get_or_insert_with_properties(now, key, make)?,
+            kind: self.kind,
+        })
+    }
 }
 
 impl<H, K, V, S, P, W, A, L, Q, R, I> Cache<H, K, V, S, P, W, A, L, Q, Direct<R>, I>

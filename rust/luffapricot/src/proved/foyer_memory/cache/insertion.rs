@@ -59,6 +59,25 @@ where
         })
     }
 
+    /// Inserts a value with default properties, as `put_with_properties` does.
+    ///
+    /// # Errors
+    /// Those of `insert_with_properties`.
+    #[inline]
+    pub fn put(&self, now: u64, key: K, value: V) -> Result<()> {
+        self.cache.put(now, key, value)
+    }
+
+    /// Inserts a record as `insert_with_properties` does, and makes no entry of it: an insert and the drop of its entry in one
+    /// step, under one lock.
+    ///
+    /// # Errors
+    /// Those of `insert_with_properties`.
+    #[inline]
+    pub fn put_with_properties(&self, now: u64, key: K, value: V, properties: P) -> Result<()> {
+        self.cache.put_with_properties(now, key, value, properties)
+    }
+
     /// Inserts the record of a piece and returns an entry of it, with the source `Memory`.
     ///
     /// A piece of this cache stands for its own record. Any other piece makes a new record, which the weighter weighs.

@@ -43,6 +43,49 @@ where
         }
     }
 
+    /// Calls `look` with the value that a `get` at `now` would find, counts a use of its record, and returns what `look`
+    /// returned. Makes no entry, and takes one lock.
+    ///
+    /// `look` runs under that lock: it must not call the cache, and should be short.
+    ///
+    /// # Errors
+    /// F9 if the handle count would pass its limit.
+    #[inline(always)]
+    pub fn read<X, F: FnOnce(&V) -> X>(&self, now: u64, key: &K, look: F) -> Result<Option<X>> {
+        self.cache.read(now, key, look)
+    }
+
+    /// Calls `look` as `read` does, and counts no use. A `peek` isn't counted among hits and misses either.
+    #[inline(always)]
+    pub fn peek<X, F: FnOnce(&V) -> X>(&self, now: u64, key: &K, look: F) -> Option<X> {
+        self.cache.peek(now, key, look)
+    }
+
+    /// Returns a copy of the value that a `get` at `now` would find. This counts as a use, as `read` does.
+    ///
+    /// # Errors
+    /// F9 if the handle count would pass its limit.
+    #[inline(always)]
+    pub fn get_copied(&self, now: u64, key: &K) -> Result<Option<V>>
+    where
+        V: Copy,
+    {
+        self.cache.get_copied(now, key)
+    }
+
+    /// Returns a clone of the value that a `get` at `now` would find, made under the shard's lock. This counts as a use, as
+    /// `read` does.
+    ///
+    /// # Errors
+    /// F9 if the handle count would pass its limit, F7 if the clone fails, which still counts as a use.
+    #[inline(always)]
+    pub fn get_cloned(&self, now: u64, key: &K) -> Result<Option<V>>
+    where
+        V: TryClone,
+    {
+        self.cache.get_cloned(now, key)
+    }
+
     /// Removes the key's record, expired or not, and returns an entry of it. The listener is told of it as `Remove`.
     ///
     /// # Errors
@@ -54,6 +97,16 @@ where
             Some(entry) => Ok(Some(CacheEntry { entry, kind })),
             None => Ok(None),
         }
+    }
+
+    /// Removes the key's record, expired or not, and returns whether there was one. The listener is told of it as `Remove`. Makes
+    /// no entry.
+    ///
+    /// # Errors
+    /// F9 if the handle count would pass its limit.
+    #[inline]
+    pub fn delete(&self, key: &K) -> Result<bool> {
+        self.cache.delete(key)
     }
 
     /// Returns whether a `get` at `now` finds the key, and if so counts a use of its record. Takes no memory.
