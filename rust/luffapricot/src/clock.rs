@@ -37,6 +37,7 @@ impl Clock {
     }
 
     /// Returns when a record expires that is inserted now with this time to live.
+    #[inline]
     pub(crate) fn expiry(&self, time_to_live: Option<Duration>) -> Option<u64> {
         let time_to_live = time_to_live?;
         self.expires.store(true, Ordering::Relaxed);

@@ -69,6 +69,7 @@ pub unsafe trait Allocator {
 
 // SAFETY: Rust's global allocator keeps these promises.
 unsafe impl Allocator for Global {
+    #[inline]
     fn allocate(&self, size: usize, align: usize) -> Result<*mut u8, AllocError> {
         let layout = Layout::from_size_align(size, align).map_err(|_| AllocError)?;
         if size == 0 {
@@ -79,6 +80,7 @@ unsafe impl Allocator for Global {
         if block.is_null() { Err(AllocError) } else { Ok(block) }
     }
 
+    #[inline]
     unsafe fn deallocate(&self, block: *mut u8, size: usize, align: usize) {
         if size != 0 {
             // SAFETY: by this function's contract, `allocate` was called with the same layout.
