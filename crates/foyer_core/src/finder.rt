@@ -1,6 +1,6 @@
 //! How a shard finds the slot of a key. The shard says which slot has which key, so a finder needn't keep keys.
 
-ghost use Rattle.std.specs.Prelude.{◌≡◌, ◌≢◌, ℕ, Bool, Some, None, IfErr, OnOk, OnErr};
+ghost use Rattle.std.specs.Prelude.{◌≡◌, ◌≢◌, ℕ, Bool, Some, None, IfErr, OnOk, OnErr, true};
 ghost use Rattle.std.specs.Map.{update};
 ghost use Rattle.foyer_policy.specs.declared.error.Reason.TheVariants.{NoMemory};
 
@@ -36,15 +36,17 @@ pub trait Finder<K: Key>: Drop {
             F.post is_its s answer → answer ≡ same_key K.eq q (hash, key.now) }
         ensures { result ≡ view self.now (hash, key.now) };
 
-    /// Sets the slot of a key, which led to the slot `was`, or to none. No key leads to the new slot.
+    /// Sets the slot of a key, which led to the slot `was`, or to none. No key leads to the new slot. A finder that
+    /// keeps keys clones this one.
     ///
     /// # Errors
     /// F7 if memory runs out; nothing has changed.
-    fn put(&mut self, hash: u64, key: K, was: Option<usize>, slot: usize) -> Result<()>
-        requires was { was ≡ view self.old (hash, key) }
+    fn put(&mut self, hash: u64, key: &K, was: Option<usize>, slot: usize) -> Result<()>
+        requires clones { (k c : K) → K.is_clone k c → K.eq c k ≡ true }
+        requires was { was ≡ view self.old (hash, key.now) }
         requires new { (q : ℕ × K) → view self.old q ≢ Some slot }
         ensures view { OnOk result ((q : ℕ × K) →
-            view self.new q ≡ update (same_key K.eq) (view self.old) (hash, key) (Some slot) q) }
+            view self.new q ≡ update (same_key K.eq) (view self.old) (hash, key.now) (Some slot) q) }
         ensures refused { IfErr result (λ e. e ≡ NoMemory) }
         ensures err { OnErr result ((q : ℕ × K) → view self.new q ≡ view self.old q) };
 

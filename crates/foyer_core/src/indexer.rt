@@ -1,10 +1,11 @@
 //! The index of a shard, from hashed keys to numbers.
 
-ghost use Rattle.std.specs.Prelude.{◌≡◌, ℕ, Some, None, IfOk, IfErr, OnOk, OnErr};
+ghost use Rattle.std.specs.Prelude.{◌≡◌, ℕ, Some, None, IfOk, IfErr, OnOk, OnErr, true};
 ghost use Rattle.std.specs.Map.{update};
 ghost use Rattle.foyer_policy.specs.declared.error.Reason.TheVariants.{NoMemory};
+ghost use Rattle.foyer_core.specs.Indexer.{same_key};
 
-use foyer_policy::{Key, Result};
+use foyer_policy::{Error, Key, Reason, Result};
 use std::alloc::Global;
 
 mod chain;
@@ -61,4 +62,27 @@ pub trait Indexer<K: Key>: Drop {
     // equal hashed keys are one key
     ghost respects: { (s : Self) (p q : ℕ × K) →
         same_key K.eq p q ≡ true → view s p ≡ view s q };
+}
+
+/// Sets the number of a key in an index, which gets a clone of the key.
+///
+/// # Errors
+/// F7 if memory runs out; nothing has changed.
+pub(crate) fn insert_clone<K: Key, I: Indexer<K>>(
+    index: &mut I,
+    hash: u64,
+    key: &K,
+    id: u64,
+) -> Result<()>
+    requires clones { (k c : K) → K.is_clone k c → K.eq c k ≡ true }
+    ensures view { OnOk result ((q : ℕ × K) →
+        I.view index.new q ≡ update (same_key K.eq) (I.view index.old) (hash, key.now) (Some id) q) }
+    ensures refused { IfErr result (λ e. e ≡ NoMemory) }
+    ensures err { OnErr result ((q : ℕ × K) → I.view index.new q ≡ I.view index.old q) }
+{
+    let Ok(own) = key.clone() else {
+        return Err(Error::new(Reason::NoMemory));
+    };
+    let _ = index.insert(hash, own, id)?;
+    Ok(())
 }

@@ -58,9 +58,9 @@ const LAST_NEAR: usize = 4_294_967_294;
 
 // A key leads to one slot, then to another one, and then to none.
 fn leads_to<F: Finder<u64>>(rt: &impl Abort, mut finder: F, first: usize, second: usize) -> Done {
-    finder.put(1, 5, None, first)?;
+    finder.put(1, &5, None, first)?;
     assert_eq!(rt; finder.find(1, &5, |_| true), Some(first));
-    finder.put(1, 5, Some(first), second)?;
+    finder.put(1, &5, Some(first), second)?;
     assert_eq!(rt; finder.find(1, &5, |_| true), Some(second));
     finder.take(1, &5, second);
     assert_eq!(rt; finder.find(1, &5, |_| true), None);

@@ -1,4 +1,4 @@
-//! Calls of which one request for memory is refused, each in turn.
+//! Calls of which one request for memory is refused, each in turn, and how many requests an insert makes.
 
 use luffapricot::*;
 use std::alloc::{GlobalAlloc, Layout, System};
@@ -46,6 +46,14 @@ fn refusing<T>(n: u64, call: impl FnOnce() -> T) -> (T, bool) {
     let result = call();
     let left = LEFT.replace(u64::MAX);
     (result, left == u64::MAX)
+}
+
+// Calls, and returns how many requests that made.
+fn requests<T>(call: impl FnOnce() -> T) -> (T, u64) {
+    const FROM: u64 = u64::MAX - 1;
+    LEFT.set(FROM);
+    let result = call();
+    (result, FROM - LEFT.replace(u64::MAX))
 }
 
 static LIVE: AtomicI64 = AtomicI64::new(0);
@@ -164,5 +172,22 @@ fn a_call_fails_with_f7_and_the_cache_stays_whole_if_memory_is_refused() {
         let refusals = run(policy);
         assert!(refusals > 300, "{refusals}");
         assert_eq!(LIVE.load(SeqCst), 0, "pages leak or were dropped twice");
+    }
+}
+
+// Once the tables have their size. Every third insert replaces.
+#[test]
+fn an_insert_of_a_string_key_allocates_its_record_alone() {
+    let key = |n: u64| format!("key {}", if n % 3 == 0 { n - 1 } else { n });
+    for policy in policies() {
+        let cache: Cache<String, u64> = CacheBuilder::new(100).with_shards(2).with_eviction_config(policy.clone()).build();
+        for n in 1..22_000 {
+            let own = key(n);
+            let ((), made) = match n % 2 {
+                0 => requests(|| cache.put(own, n)),
+                _ => requests(|| drop(cache.insert(own, n))),
+            };
+            assert!(n < 20_000 || made == 1, "{policy:?} {n} {made}");
+        }
     }
 }

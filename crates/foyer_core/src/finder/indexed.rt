@@ -1,7 +1,7 @@
 //! A finder over an index that keeps the keys.
 
 use crate::finder::Finder;
-use crate::indexer::{HashTableIndexer, Indexer};
+use crate::indexer::{Indexer, insert_clone};
 use foyer_policy::{Key, Result};
 use std::alloc::Global;
 
@@ -40,9 +40,8 @@ impl<K: Key, I: Indexer<K>> Finder<K> for Indexed<I> {
     }
 
     #[inline]
-    fn put(&mut self, hash: u64, key: K, _was: Option<usize>, slot: usize) -> Result<()> {
-        let _ = self.index.insert(hash, key, slot as u64)?;
-        Ok(())
+    fn put(&mut self, hash: u64, key: &K, _was: Option<usize>, slot: usize) -> Result<()> {
+        insert_clone(&mut self.index, hash, key, slot as u64)
     }
 
     #[inline]

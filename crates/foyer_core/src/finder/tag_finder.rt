@@ -1,6 +1,6 @@
 //! A finder over tags.
 
-ghost use Rattle.std.specs.Prelude.{◌≡◌, ◌≢◌, ℕ, ◌≤◌, ◌-◌, ◌^◌, ◌<◌, Some, None, IfErr, OnOk, OnErr};
+ghost use Rattle.std.specs.Prelude.{◌≡◌, ◌≢◌, ℕ, ◌≤◌, ◌-◌, ◌^◌, ◌<◌, Some, None, IfErr, OnOk, OnErr, true};
 ghost use Rattle.std.specs.Map.{update};
 ghost use Rattle.foyer_policy.specs.declared.error.Reason.TheVariants.{NoMemory};
 ghost use Rattle.foyer_core.specs.Indexer.{same_key};
@@ -8,7 +8,7 @@ ghost use Rattle.foyer_core.specs.Trails.{led, either};
 
 use crate::finder::Finder;
 use crate::finder::key_tags::KeyTags;
-use crate::indexer::{HashTableIndexer, Indexer};
+use crate::indexer::{HashTableIndexer, Indexer, insert_clone};
 use foyer_policy::{Key, Result};
 use std::alloc::Global;
 use std::snapshot::Snapshot;
@@ -17,7 +17,7 @@ use std::snapshot::Snapshot;
 const FAR: usize = u32::MAX as usize;
 
 /// A finder that takes eight bytes for each bucket and compares keys in the records. Slots from 2^32 - 1 on are in an
-/// index beside the tags.
+/// index beside the tags, which keeps clones of their keys.
 #[derive(Drop)]
 pub struct TagFinder<K: Key, I: Indexer<K> = HashTableIndexer<K>> {
     near: KeyTags<K>,
@@ -53,24 +53,24 @@ impl<K: Key, I: Indexer<K>> TagFinder<K, I> {
         Ok(())
     }
 
-    // Puts a slot under a key whose number fits no tag.
+    // Puts a slot whose number fits no tag under a clone of the key.
     #[cold]
     #[inline(never)]
-    fn put_far(&mut self, hash: u64, key: K, was: Option<usize>, slot: usize) -> Result<()>
+    fn put_far(&mut self, hash: u64, key: &K, was: Option<usize>, slot: usize) -> Result<()>
+        requires clones { (k c : K) → K.is_clone k c → K.eq c k ≡ true }
         requires slot { 2 ^ 32 - 1 ≤ slot }
-        requires was { was ≡ either (led K.eq self.old.near.trail) (I.view self.old.far) (hash, key) }
+        requires was { was ≡ either (led K.eq self.old.near.trail) (I.view self.old.far) (hash, key.now) }
         ensures view { OnOk result ((q : ℕ × K) → either (led K.eq self.new.near.trail) (I.view self.new.far) q
             ≡ update (same_key K.eq) (either (led K.eq self.old.near.trail) (I.view self.old.far))
-            (hash, key) (Some slot) q) }
+            (hash, key.now) (Some slot) q) }
         ensures refused { IfErr result (λ e. e ≡ NoMemory) }
         ensures err { OnErr result ((q : ℕ × K) → either (led K.eq self.new.near.trail) (I.view self.new.far) q
             ≡ either (led K.eq self.old.near.trail) (I.view self.old.far) q) }
     {
-        let seen = Snapshot::of(&key);
-        let _ = self.far.insert(hash, key, slot as u64)?;
+        insert_clone(&mut self.far, hash, key, slot as u64)?;
         if let Some(was) = was {
             if was < FAR {
-                self.near.remove(hash, seen, was);
+                self.near.remove(hash, Snapshot::of(key), was);
             }
         }
         Ok(())
@@ -102,9 +102,9 @@ impl<K: Key, I: Indexer<K>> Finder<K> for TagFinder<K, I> {
     }
 
     #[inline(always)]
-    fn put(&mut self, hash: u64, key: K, was: Option<usize>, slot: usize) -> Result<()> {
+    fn put(&mut self, hash: u64, key: &K, was: Option<usize>, slot: usize) -> Result<()> {
         if slot < FAR {
-            self.put_near(hash, &key, was, slot)
+            self.put_near(hash, key, was, slot)
         } else {
             self.put_far(hash, key, was, slot)
         }

@@ -26,14 +26,10 @@ impl<E: Eviction, K: Key, V: Value, P: Properties, I: Finder<K>> Store<E, K, V, 
     // Enters a record, for which there is room, in place of what is held under its id, and removes its key's record.
     // Returns nothing if the index has no room; nothing has changed.
     #[inline(always)]
-    pub(super) fn admit(
-        &mut self,
-        key: K,
-        slot: Slot<K, V, P>,
-    ) -> Option<(usize, Option<Left<K, V, P>>)>
+    pub(super) fn admit(&mut self, slot: Slot<K, V, P>) -> Option<(usize, Option<Left<K, V, P>>)>
         requires room { HasRoom self.old.records }
         requires places { HasPlaces self.old }
-        requires same { K.eq key slot.kept.key ≡ true }
+        requires clones { (k c : K) → K.is_clone k c → K.eq c k ≡ true }
         requires plain { is_phantom (P.phantom_of slot.kept.properties) ≡ false }
         requires coming { slot ≡ record slot { resident = true } }
         requires out { (r : Rec K V P) → (state_of self.old).records slot.id ≡ Some r → r.resident ≡ false }
@@ -51,7 +47,8 @@ impl<E: Eviction, K: Key, V: Value, P: Properties, I: Finder<K>> Store<E, K, V, 
         let hint = slot.properties().hint().unwrap_or(Hint::Normal);
         let expires = slot.properties().expiry();
         let id = slot.id();
-        let was = self.slot_under(hash, &key);
+        let key = slot.key();
+        let was = self.slot_under(hash, key);
         let stands = self.stands(id);
         let number = self.records.slot_for(stands);
         let Ok(()) = self.index.put(hash, key, was, number) else {

@@ -233,13 +233,13 @@ impl<E: Eviction, K: Key, V: Value, P: Properties, I: Finder<K>> Store<E, K, V, 
             (λ _. SettlesPlain (at_moment now (meaning_of self.old)) source (state_of self.old) (incoming_of slot) ls (state_of self.new))) }
     {
         let target = self.capacity.saturating_sub(slot.weight());
-        let Ok(key) = self.prepare(&mut slot, leaves) else {
+        let Ok(()) = self.prepare(&mut slot, leaves) else {
             return None;
         };
         let Ok(()) = self.evict_onto(now, leaves, target) else {
             return None;
         };
-        match self.admit(key, slot) {
+        match self.admit(slot) {
             Some((place, replaced)) => {
                 if let Some(left) = replaced {
                     leaves.push_reserved((Event::Replace, left));
@@ -250,19 +250,16 @@ impl<E: Eviction, K: Key, V: Value, P: Properties, I: Finder<K>> Store<E, K, V, 
         }
     }
 
-    // Makes room for one record and for what leaves, and clones the record's key. The slot gets the share that it
-    // leaves with.
+    // Makes room for one record and for what leaves. The slot gets the share that it leaves with.
     #[inline(always)]
-    fn prepare(&mut self, slot: &mut Slot<K, V, P>, leaves: &mut Vec<Leave<K, V, P>>) -> Result<K>
+    fn prepare(&mut self, slot: &mut Slot<K, V, P>, leaves: &mut Vec<Leave<K, V, P>>) -> Result<()>
         ensures same { state_of self.new ≡ state_of self.old }
-        ensures key { IfOk result (λ key. K.is_clone slot.old.kept.key key) }
         ensures slot { OnOk result (slot.new ≡ record slot.old { resident = true }) }
         ensures leaves { leaves.new.items ≡ leaves.old.items }
         ensures leaves_room { OnOk result (vec_len leaves.new < vec_capacity leaves.new) }
         ensures room { OnOk result (HasRoom self.new.records) }
         ensures places { OnOk result (HasPlaces self.new) }
     {
-        let key = slot.key().clone()?;
         self.records.reserve()?;
         let Some(places) = self.records.count().checked_add(1) else {
             return Err(Error::new(Reason::NoMemory));
@@ -271,6 +268,6 @@ impl<E: Eviction, K: Key, V: Value, P: Properties, I: Finder<K>> Store<E, K, V, 
         // Mostly one leaves, and one more may be replaced.
         leaves.reserve(2)?;
         slot.come_in()?;
-        Ok(key)
+        Ok(())
     }
 }

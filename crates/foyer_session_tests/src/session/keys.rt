@@ -19,7 +19,7 @@ impl Clone for Picky {
 type OfKeys = Command<Picky, u64, CacheProperties, foyer_session::NoPredicate, FifoConfig>;
 
 #[test]
-fn a_key_that_is_not_cloned_is_refused(rt: HostRuntime) -> Result<(), Fail> {
+fn a_fetch_needs_a_clone_of_the_key_and_an_insert_none(rt: HostRuntime) -> Result<(), Fail> {
     let config = RawCacheConfig {
         shards: 1,
         hash_builder: ModHasher::default(),
@@ -27,16 +27,15 @@ fn a_key_that_is_not_cloned_is_refused(rt: HostRuntime) -> Result<(), Fail> {
     };
     let mut session: Session<Fifo, Picky, u64, CacheProperties, ModHasher, UnitWeighter, AdmitAll> =
         Session::new(rt.alloc(), CacheCore::new(rt.alloc(), config)?);
-    for command in [
-        OfKeys::Insert(0, Picky(7), 70, CacheProperties::default()),
-        OfKeys::GetOrFetch(0, Picky(7), None),
-    ] {
-        let Answer::Refused(error) = session.step(command)?.answer else {
-            panic!(rt; "it is not refused");
-        };
-        assert_eq!(rt; error.number(), 7);
-    }
-    assert_eq!(rt; session.entries(), 0);
+    let fetch = OfKeys::GetOrFetch(0, Picky(7), None);
+    let Answer::Refused(error) = session.step(fetch)?.answer else {
+        panic!(rt; "it is not refused");
+    };
+    assert_eq!(rt; (error.number(), session.entries()), (7, 0));
+    let insert = OfKeys::Insert(0, Picky(7), 70, CacheProperties::default());
+    assert!(rt;
+        matches!(session.step(insert)?.answer, Answer::Entry { .. }) && session.entries() == 1
+    );
     let reply = session.step(OfKeys::GetOrFetch(0, Picky(8), None))?;
     assert!(rt; matches!(reply.answer, Answer::Lead { fetch: 0, token: 0 }));
     Ok(())

@@ -2,13 +2,13 @@
 
 use super::*;
 use crate::refusing::{Grants, RefusingKey};
-use foyer_core::{Ended, FetchTarget, Lookup, Outcome, Refused};
+use foyer_core::{Ended, FetchTarget, HashTableIndexer, Indexed, Lookup, Outcome, Refused};
 use std::sync::Arc;
 use std::sync::atomic::{AtomicU64, Ordering};
 use std::test::Fail;
 
 // A core over keys whose clones are refused, where numbers wait.
-type Keyed = CacheCore<
+type Keyed<I = TagFinder<RefusingKey>> = CacheCore<
     Fifo,
     RefusingKey,
     u64,
@@ -18,12 +18,17 @@ type Keyed = CacheCore<
     AdmitAll,
     u64,
     u64,
+    I,
 >;
 
-// One of capacity 2 that holds the keys 1 and 2, and for whose keys no further clone is granted.
-fn keyed(rt: &impl Abort, alloc: Global) -> std::result::Result<(Keyed, Grants), Fail> {
-    let grants = Arc::new(alloc, AtomicU64::new(2))?;
-    let mut core = CacheCore::new(alloc, config(2, 1))?;
+// One of capacity 2 that holds the keys 1 and 2, for which so many clones are granted, and none further.
+fn keyed<I: Finder<RefusingKey>>(
+    rt: &impl Abort,
+    alloc: Global,
+    needed: u64,
+) -> std::result::Result<(Keyed<I>, Grants), Fail> {
+    let grants = Arc::new(alloc, AtomicU64::new(needed))?;
+    let mut core = CacheCore::with_index(alloc, config(2, 1))?;
     for number in 1..3 {
         let made = core.insert(0, RefusingKey::new(number, &grants)?, 0);
         assert_eq!(rt; came_in(rt, &mut core, made), (true, 0));
@@ -33,9 +38,9 @@ fn keyed(rt: &impl Abort, alloc: Global) -> std::result::Result<(Keyed, Grants),
 }
 
 // Whether a record came in, or memory was refused, and how many left.
-fn came_in(
+fn came_in<I: Finder<RefusingKey>>(
     rt: &impl Abort,
-    core: &mut Keyed,
+    core: &mut Keyed<I>,
     made: std::result::Result<
         Inserted<RefusingKey, u64, CacheProperties, u64>,
         Refused<RefusingKey, u64, CacheProperties>,
@@ -59,27 +64,68 @@ fn came_in(
     }
 }
 
-// A phantom record isn't put into the index.
+// The last insert evicts the other record, and replaces the key's own.
 #[test]
-fn an_insert_needs_a_clone_of_the_key(rt: HostRuntime) -> Done {
-    let (mut core, grants) = keyed(&rt, rt.alloc())?;
+fn an_insert_needs_no_clone_of_the_key(rt: HostRuntime) -> Done {
+    let (mut core, grants) = keyed::<TagFinder<RefusingKey>>(&rt, rt.alloc(), 0)?;
+    let phantom = CacheProperties::default().with_phantom(true);
+    let made = core.insert_with_properties(0, RefusingKey::new(3, &grants)?, 0, phantom);
+    assert_eq!(rt; came_in(&rt, &mut core, made), (true, 1));
+    for gone in [1, 2] {
+        let made = core.insert(0, RefusingKey::new(3, &grants)?, 0);
+        assert_eq!(rt; came_in(&rt, &mut core, made), (true, gone));
+    }
+    assert!(rt; core.contains(0, &RefusingKey::new(3, &grants)?));
+    assert_eq!(rt; (core.usage(), core.entries()), (1, 1));
+    Ok(())
+}
+
+// An index keeps the keys, and asks for a clone once the eviction is made. A phantom record isn't put into it.
+#[test]
+fn an_insert_into_an_index_needs_a_clone_of_the_key(rt: HostRuntime) -> Done {
+    type Keeping = Indexed<HashTableIndexer<RefusingKey>>;
+    let (mut core, grants) = keyed::<Keeping>(&rt, rt.alloc(), 2)?;
     let phantom = CacheProperties::default().with_phantom(true);
     let made = core.insert_with_properties(0, RefusingKey::new(3, &grants)?, 0, phantom);
     assert_eq!(rt; came_in(&rt, &mut core, made), (true, 1));
     let made = core.insert(0, RefusingKey::new(3, &grants)?, 0);
-    assert_eq!(rt; came_in(&rt, &mut core, made), (false, 0));
-    assert_eq!(rt; (core.usage(), core.entries()), (2, 2));
+    assert_eq!(rt; came_in(&rt, &mut core, made), (false, 1));
+    assert_eq!(rt; (core.usage(), core.entries()), (1, 1));
     grants.store(1, Ordering::SeqCst);
     let made = core.insert(0, RefusingKey::new(3, &grants)?, 0);
-    assert_eq!(rt; came_in(&rt, &mut core, made), (true, 1));
+    assert_eq!(rt; came_in(&rt, &mut core, made), (true, 0));
     assert!(rt; core.contains(0, &RefusingKey::new(3, &grants)?));
     Ok(())
 }
 
-// A record that is in needs no clone; one that comes back does, and is as it was where that is refused.
+// A slot that fits no tag is in an index.
 #[test]
-fn a_piece_that_comes_back_needs_a_clone_of_the_key(rt: HostRuntime) -> Done {
-    let (mut core, grants) = keyed(&rt, rt.alloc())?;
+fn a_far_slot_needs_a_clone_of_the_key(rt: HostRuntime) -> Done {
+    const FAR: usize = 4_294_967_295;
+    let grants = Arc::new(rt.alloc(), AtomicU64::new(0))?;
+    let key = RefusingKey::new(7, &grants)?;
+    let mut finder: TagFinder<RefusingKey> = TagFinder::empty(rt.alloc());
+    finder.put(1, &key, None, 3)?;
+    finder.put(1, &key, Some(3), FAR - 1)?;
+    let Err(error) = finder.put(1, &key, Some(FAR - 1), FAR) else {
+        panic!(&rt; "the clone is not refused");
+    };
+    assert_eq!(rt;
+        (error.number(), finder.find(1, &key, |_| true)),
+        (7, Some(FAR - 1))
+    );
+    grants.store(1, Ordering::SeqCst);
+    finder.put(1, &key, Some(FAR - 1), FAR)?;
+    assert_eq!(rt; finder.find(1, &key, |_| true), Some(FAR));
+    finder.take(1, &key, FAR);
+    assert_eq!(rt; finder.find(1, &key, |_| true), None);
+    Ok(())
+}
+
+// Neither a record that is in needs one, nor one that comes back.
+#[test]
+fn a_piece_needs_no_clone_of_the_key(rt: HostRuntime) -> Done {
+    let (mut core, grants) = keyed::<TagFinder<RefusingKey>>(&rt, rt.alloc(), 0)?;
     let one = RefusingKey::new(1, &grants)?;
     let entry = core
         .get(0, &one)
@@ -90,10 +136,7 @@ fn a_piece_that_comes_back_needs_a_clone_of_the_key(rt: HostRuntime) -> Done {
     let made = core.insert_piece(0, piece.clone()?);
     assert_eq!(rt; came_in(&rt, &mut core, made), (true, 0));
     core.clear()?;
-    let made = core.insert_piece(0, piece.clone()?);
-    assert_eq!(rt; came_in(&rt, &mut core, made), (false, 0));
     assert_eq!(rt; (core.contains(0, &one), core.usage()), (false, 0));
-    grants.store(1, Ordering::SeqCst);
     let made = core.insert_piece(0, piece);
     assert_eq!(rt; came_in(&rt, &mut core, made), (true, 0));
     assert_eq!(rt; (core.contains(0, &one), core.usage()), (true, 1));
@@ -125,7 +168,7 @@ fn lead(rt: &impl Abort, core: &mut Keyed, key: &RefusingKey) -> Option<u64> {
 // A refused look-up opens no fetch. Where the fetch ends and its key can't be cloned, it is closed all the same.
 #[test]
 fn a_fetch_needs_a_clone_of_the_key(rt: HostRuntime) -> Done {
-    let (mut core, grants) = keyed(&rt, rt.alloc())?;
+    let (mut core, grants) = keyed::<TagFinder<RefusingKey>>(&rt, rt.alloc(), 0)?;
     let three = RefusingKey::new(3, &grants)?;
     assert_eq!(rt; lead(&rt, &mut core, &three), None);
     assert!(rt; !core.is_open(&three, 0));

@@ -24,11 +24,12 @@ pub trait Finder<K: Key>: Sized {
     /// the finder.
     fn find<F: Fn(usize) -> bool>(&self, hash: u64, key: &K, is_its: F) -> Option<usize>;
 
-    /// Sets the slot of a key, which led to the slot `was`, or to none. No key leads to the new slot.
+    /// Sets the slot of a key, which led to the slot `was`, or to none. No key leads to the new slot. A finder that
+    /// keeps keys clones this one.
     ///
     /// # Errors
     /// F7 if memory runs out; nothing has changed.
-    fn put(&mut self, hash: u64, key: K, was: Option<usize>, slot: usize) -> Result<()>;
+    fn put(&mut self, hash: u64, key: &K, was: Option<usize>, slot: usize) -> Result<()>;
 
     /// Removes a key that leads to this slot. Takes no memory.
     fn take(&mut self, hash: u64, key: &K, slot: usize);

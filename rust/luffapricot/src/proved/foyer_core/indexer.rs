@@ -3,7 +3,7 @@
 // Written by rust/erase/erase.py from crates/foyer_core/src/indexer.rt: change that.
 #[allow(unused_imports)]
 use crate::rattle_std::prelude::*;
-use crate::proved::foyer_policy::{Key, Result};
+use crate::proved::foyer_policy::{Error, Key, Reason, Result};
 use crate::rattle_std::alloc::Global;
 
 mod chain;
@@ -35,4 +35,17 @@ pub trait Indexer<K: Key>: Sized {
     /// # Errors
     /// F7 if memory runs out; nothing has changed.
     fn drain(&mut self) -> Result<Vec<u64>>;
+}
+
+/// Sets the number of a key in an index, which gets a clone of the key.
+///
+/// # Errors
+/// F7 if memory runs out; nothing has changed.
+#[inline]
+pub(crate) fn insert_clone<K: Key, I: Indexer<K>>(index: &mut I, hash: u64, key: &K, id: u64) -> Result<()> {
+    let Ok(own) = key.try_clone() else {
+        return Err(Error::new(Reason::NoMemory));
+    };
+    let _ = index.insert(hash, own, id)?;
+    Ok(())
 }

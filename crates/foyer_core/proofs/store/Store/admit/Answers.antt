@@ -13,9 +13,8 @@ use Rattle.foyer_core.specs.Table.{rec_of}
 use Rattle.foyer_core.specs.Records.{slot_in, number_of, record_in}
 use Rattle.foyer_core.proofs.Counting.{entries_below}
 use Rattle.foyer_core.proofs.Holdings.{holding}
-use Rattle.foyer_core.proofs.Keys.{update_alike, same_key_laws}
 use Rattle.foyer_core.proofs.AdmitLemmas.{Admitted, coming_rec, led_not, no_item, reindexed}
-use Rattle.foyer_core.proofs.GaveLemmas.{Gave, byte_is, alike_key, may_give_way, gave, gave_free, gave_push, gave_lighter, gave_fits, gave_admitted}
+use Rattle.foyer_core.proofs.GaveLemmas.{Gave, byte_is, may_give_way, gave, gave_free, gave_push, gave_lighter, gave_fits, gave_admitted}
 use Rattle.foyer_core.proofs.store.Store.admit.Goals as goal
 
 pub put-requires-clause-new : goal.put-requires-clause-new
@@ -63,9 +62,8 @@ give_way-gone-requires g c =
     (c.put-2.ensures.slot ∙ sym c.slot_for-number.ensures.slot) c.put-2.ensures.slots in
     let hash : c.hash-hash.result ≡ inc.kept.hash = c.hash-hash.ensures in
     let was : c.slot_under-was.result ≡ g.I.Finder.view s.index (key_of inc.kept) = c.slot_under-was.ensures ∙ ap
-    (λ (h : ℕ). g.I.Finder.view s.index (h, c.args.key)) hash ∙ g.met.I.Finder.respects s.index
-    (inc.kept.hash, c.args.key) (key_of inc.kept) (alike_key g.K.PartialEq.eq inc.kept.hash c.args.key inc.kept.key
-    c.requires.same) in
+    (λ (h : ℕ). g.I.Finder.view s.index (h, c.key-key.result.now)) hash
+    ∙ ap (λ (k : g.row.K.Denot). g.I.Finder.view s.index (inc.kept.hash, k)) c.key-key.ensures in
     may_give_way m laws lawful (holding s) inc n unled c.requires.out c.put-2.new.self c.args.slot
     slots1 c.slot_under-was.result was
 
@@ -85,9 +83,8 @@ overflow_sub-self g c =
     (c.put-2.ensures.slot ∙ sym c.slot_for-number.ensures.slot) c.put-2.ensures.slots in
     let hash : c.hash-hash.result ≡ inc.kept.hash = c.hash-hash.ensures in
     let was : c.slot_under-was.result ≡ g.I.Finder.view s.index (key_of inc.kept) = c.slot_under-was.ensures ∙ ap
-    (λ (h : ℕ). g.I.Finder.view s.index (h, c.args.key)) hash ∙ g.met.I.Finder.respects s.index
-    (inc.kept.hash, c.args.key) (key_of inc.kept) (alike_key g.K.PartialEq.eq inc.kept.hash c.args.key inc.kept.key
-    c.requires.same) in
+    (λ (h : ℕ). g.I.Finder.view s.index (h, c.key-key.result.now)) hash
+    ∙ ap (λ (k : g.row.K.Denot). g.I.Finder.view s.index (inc.kept.hash, k)) c.key-key.ensures in
     let w = c.give_way-gone.ensures in
     let gv : Gave m laws lawful (holding s) inc n unled c.requires.out c.put-2.new.self c.args.slot
     slots1 c.give_way-gone.result.0 c.give_way-gone.result.1 c.give_way-gone.new.records
@@ -117,9 +114,8 @@ overflow_sub-self-2 g c =
     (c.put-2.ensures.slot ∙ sym c.slot_for-number.ensures.slot) c.put-2.ensures.slots in
     let hash : c.hash-hash.result ≡ inc.kept.hash = c.hash-hash.ensures in
     let was : c.slot_under-was.result ≡ g.I.Finder.view s.index (key_of inc.kept) = c.slot_under-was.ensures ∙ ap
-    (λ (h : ℕ). g.I.Finder.view s.index (h, c.args.key)) hash ∙ g.met.I.Finder.respects s.index
-    (inc.kept.hash, c.args.key) (key_of inc.kept) (alike_key g.K.PartialEq.eq inc.kept.hash c.args.key inc.kept.key
-    c.requires.same) in
+    (λ (h : ℕ). g.I.Finder.view s.index (h, c.key-key.result.now)) hash
+    ∙ ap (λ (k : g.row.K.Denot). g.I.Finder.view s.index (inc.kept.hash, k)) c.key-key.ensures in
     let w = c.give_way-gone.ensures in
     let gv : Gave m laws lawful (holding s) inc n unled c.requires.out c.put-2.new.self c.args.slot
     slots1 c.give_way-gone.result.0 c.give_way-gone.result.1 c.give_way-gone.new.records
@@ -155,9 +151,8 @@ push_at-requires-clause-free g c =
     (c.put-2.ensures.slot ∙ sym c.slot_for-number.ensures.slot) c.put-2.ensures.slots in
     let hash : c.hash-hash.result ≡ inc.kept.hash = c.hash-hash.ensures in
     let was : c.slot_under-was.result ≡ g.I.Finder.view s.index (key_of inc.kept) = c.slot_under-was.ensures ∙ ap
-    (λ (h : ℕ). g.I.Finder.view s.index (h, c.args.key)) hash ∙ g.met.I.Finder.respects s.index
-    (inc.kept.hash, c.args.key) (key_of inc.kept) (alike_key g.K.PartialEq.eq inc.kept.hash c.args.key inc.kept.key
-    c.requires.same) in
+    (λ (h : ℕ). g.I.Finder.view s.index (h, c.key-key.result.now)) hash
+    ∙ ap (λ (k : g.row.K.Denot). g.I.Finder.view s.index (inc.kept.hash, k)) c.key-key.ensures in
     let w = c.give_way-gone.ensures in
     let gv : Gave m laws lawful (holding s) inc n unled c.requires.out c.put-2.new.self c.args.slot
     slots1 c.give_way-gone.result.0 c.give_way-gone.result.1 c.give_way-gone.new.records
@@ -190,9 +185,8 @@ push_at-requires-clause-new_id g c =
     (c.put-2.ensures.slot ∙ sym c.slot_for-number.ensures.slot) c.put-2.ensures.slots in
     let hash : c.hash-hash.result ≡ inc.kept.hash = c.hash-hash.ensures in
     let was : c.slot_under-was.result ≡ g.I.Finder.view s.index (key_of inc.kept) = c.slot_under-was.ensures ∙ ap
-    (λ (h : ℕ). g.I.Finder.view s.index (h, c.args.key)) hash ∙ g.met.I.Finder.respects s.index
-    (inc.kept.hash, c.args.key) (key_of inc.kept) (alike_key g.K.PartialEq.eq inc.kept.hash c.args.key inc.kept.key
-    c.requires.same) in
+    (λ (h : ℕ). g.I.Finder.view s.index (h, c.key-key.result.now)) hash
+    ∙ ap (λ (k : g.row.K.Denot). g.I.Finder.view s.index (inc.kept.hash, k)) c.key-key.ensures in
     let w = c.give_way-gone.ensures in
     let gv : Gave m laws lawful (holding s) inc n unled c.requires.out c.put-2.new.self c.args.slot
     slots1 c.give_way-gone.result.0 c.give_way-gone.result.1 c.give_way-gone.new.records
@@ -222,9 +216,8 @@ push_at-requires-clause-fits g c =
     (c.put-2.ensures.slot ∙ sym c.slot_for-number.ensures.slot) c.put-2.ensures.slots in
     let hash : c.hash-hash.result ≡ inc.kept.hash = c.hash-hash.ensures in
     let was : c.slot_under-was.result ≡ g.I.Finder.view s.index (key_of inc.kept) = c.slot_under-was.ensures ∙ ap
-    (λ (h : ℕ). g.I.Finder.view s.index (h, c.args.key)) hash ∙ g.met.I.Finder.respects s.index
-    (inc.kept.hash, c.args.key) (key_of inc.kept) (alike_key g.K.PartialEq.eq inc.kept.hash c.args.key inc.kept.key
-    c.requires.same) in
+    (λ (h : ℕ). g.I.Finder.view s.index (h, c.key-key.result.now)) hash
+    ∙ ap (λ (k : g.row.K.Denot). g.I.Finder.view s.index (inc.kept.hash, k)) c.key-key.ensures in
     let w = c.give_way-gone.ensures in
     let gv : Gave m laws lawful (holding s) inc n unled c.requires.out c.put-2.new.self c.args.slot
     slots1 c.give_way-gone.result.0 c.give_way-gone.result.1 c.give_way-gone.new.records
@@ -254,9 +247,8 @@ overflow_add-self g c =
     (c.put-2.ensures.slot ∙ sym c.slot_for-number.ensures.slot) c.put-2.ensures.slots in
     let hash : c.hash-hash.result ≡ inc.kept.hash = c.hash-hash.ensures in
     let was : c.slot_under-was.result ≡ g.I.Finder.view s.index (key_of inc.kept) = c.slot_under-was.ensures ∙ ap
-    (λ (h : ℕ). g.I.Finder.view s.index (h, c.args.key)) hash ∙ g.met.I.Finder.respects s.index
-    (inc.kept.hash, c.args.key) (key_of inc.kept) (alike_key g.K.PartialEq.eq inc.kept.hash c.args.key inc.kept.key
-    c.requires.same) in
+    (λ (h : ℕ). g.I.Finder.view s.index (h, c.key-key.result.now)) hash
+    ∙ ap (λ (k : g.row.K.Denot). g.I.Finder.view s.index (inc.kept.hash, k)) c.key-key.ensures in
     let w = c.give_way-gone.ensures in
     let gv : Gave m laws lawful (holding s) inc n unled c.requires.out c.put-2.new.self c.args.slot
     slots1 c.give_way-gone.result.0 c.give_way-gone.result.1 c.give_way-gone.new.records
@@ -286,9 +278,8 @@ overflow_add-self-2 g c =
     (c.put-2.ensures.slot ∙ sym c.slot_for-number.ensures.slot) c.put-2.ensures.slots in
     let hash : c.hash-hash.result ≡ inc.kept.hash = c.hash-hash.ensures in
     let was : c.slot_under-was.result ≡ g.I.Finder.view s.index (key_of inc.kept) = c.slot_under-was.ensures ∙ ap
-    (λ (h : ℕ). g.I.Finder.view s.index (h, c.args.key)) hash ∙ g.met.I.Finder.respects s.index
-    (inc.kept.hash, c.args.key) (key_of inc.kept) (alike_key g.K.PartialEq.eq inc.kept.hash c.args.key inc.kept.key
-    c.requires.same) in
+    (λ (h : ℕ). g.I.Finder.view s.index (h, c.key-key.result.now)) hash
+    ∙ ap (λ (k : g.row.K.Denot). g.I.Finder.view s.index (inc.kept.hash, k)) c.key-key.ensures in
     let w = c.give_way-gone.ensures in
     let gv : Gave m laws lawful (holding s) inc n unled c.requires.out c.put-2.new.self c.args.slot
     slots1 c.give_way-gone.result.0 c.give_way-gone.result.1 c.give_way-gone.new.records
@@ -303,11 +294,9 @@ overflow_add-self-2 g c =
     (record_in s.records) x.id (Some (rec_of x)) i) c.requires.coming) in
     let led1 : (q : _) → g.I.Finder.view c.put.new.self q
     ≡ update (same_key g.K.PartialEq.eq) (g.I.Finder.view s.index) (key_of inc.kept) (Some n) q =
-    update_alike (same_key g.K.PartialEq.eq) (same_key_laws g.K.PartialEq.eq laws) (g.I.Finder.view s.index)
-    (g.I.Finder.view c.put.new.self) (inc.kept.hash, c.args.key) (key_of inc.kept) (Some n)
-    (alike_key g.K.PartialEq.eq inc.kept.hash c.args.key inc.kept.key c.requires.same)
     (λ q. c.in-Ok.ensures.view q ∙ ap (λ (h : ℕ). update (same_key g.K.PartialEq.eq) (g.I.Finder.view s.index)
-    (h, c.args.key) (Some n) q) hash) in
+    (h, c.key-key.result.now) (Some n) q) hash ∙ ap (λ (k : g.row.K.Denot). update (same_key g.K.PartialEq.eq)
+    (g.I.Finder.view s.index) (inc.kept.hash, k) (Some n) q) c.key-key.ensures) in
     let item : (let i : Item = record {
       id = c.id-id.result;
       hash = c.hash-hash.result;
@@ -363,9 +352,8 @@ invariant_of-self-2 g c =
     (c.put-2.ensures.slot ∙ sym c.slot_for-number.ensures.slot) c.put-2.ensures.slots in
     let hash : c.hash-hash.result ≡ inc.kept.hash = c.hash-hash.ensures in
     let was : c.slot_under-was.result ≡ g.I.Finder.view s.index (key_of inc.kept) = c.slot_under-was.ensures ∙ ap
-    (λ (h : ℕ). g.I.Finder.view s.index (h, c.args.key)) hash ∙ g.met.I.Finder.respects s.index
-    (inc.kept.hash, c.args.key) (key_of inc.kept) (alike_key g.K.PartialEq.eq inc.kept.hash c.args.key inc.kept.key
-    c.requires.same) in
+    (λ (h : ℕ). g.I.Finder.view s.index (h, c.key-key.result.now)) hash
+    ∙ ap (λ (k : g.row.K.Denot). g.I.Finder.view s.index (inc.kept.hash, k)) c.key-key.ensures in
     let w = c.give_way-gone.ensures in
     let gv : Gave m laws lawful (holding s) inc n unled c.requires.out c.put-2.new.self c.args.slot
     slots1 c.give_way-gone.result.0 c.give_way-gone.result.1 c.give_way-gone.new.records
@@ -380,11 +368,9 @@ invariant_of-self-2 g c =
     (record_in s.records) x.id (Some (rec_of x)) i) c.requires.coming) in
     let led1 : (q : _) → g.I.Finder.view c.put.new.self q
     ≡ update (same_key g.K.PartialEq.eq) (g.I.Finder.view s.index) (key_of inc.kept) (Some n) q =
-    update_alike (same_key g.K.PartialEq.eq) (same_key_laws g.K.PartialEq.eq laws) (g.I.Finder.view s.index)
-    (g.I.Finder.view c.put.new.self) (inc.kept.hash, c.args.key) (key_of inc.kept) (Some n)
-    (alike_key g.K.PartialEq.eq inc.kept.hash c.args.key inc.kept.key c.requires.same)
     (λ q. c.in-Ok.ensures.view q ∙ ap (λ (h : ℕ). update (same_key g.K.PartialEq.eq) (g.I.Finder.view s.index)
-    (h, c.args.key) (Some n) q) hash) in
+    (h, c.key-key.result.now) (Some n) q) hash ∙ ap (λ (k : g.row.K.Denot). update (same_key g.K.PartialEq.eq)
+    (g.I.Finder.view s.index) (inc.kept.hash, k) (Some n) q) c.key-key.ensures) in
     let item : (let i : Item = record {
       id = c.id-id.result;
       hash = c.hash-hash.result;
@@ -444,9 +430,8 @@ returns-clause-admitted g c =
     (c.put-2.ensures.slot ∙ sym c.slot_for-number.ensures.slot) c.put-2.ensures.slots in
     let hash : c.hash-hash.result ≡ inc.kept.hash = c.hash-hash.ensures in
     let was : c.slot_under-was.result ≡ g.I.Finder.view s.index (key_of inc.kept) = c.slot_under-was.ensures ∙ ap
-    (λ (h : ℕ). g.I.Finder.view s.index (h, c.args.key)) hash ∙ g.met.I.Finder.respects s.index
-    (inc.kept.hash, c.args.key) (key_of inc.kept) (alike_key g.K.PartialEq.eq inc.kept.hash c.args.key inc.kept.key
-    c.requires.same) in
+    (λ (h : ℕ). g.I.Finder.view s.index (h, c.key-key.result.now)) hash
+    ∙ ap (λ (k : g.row.K.Denot). g.I.Finder.view s.index (inc.kept.hash, k)) c.key-key.ensures in
     let w = c.give_way-gone.ensures in
     let gv : Gave m laws lawful (holding s) inc n unled c.requires.out c.put-2.new.self c.args.slot
     slots1 c.give_way-gone.result.0 c.give_way-gone.result.1 c.give_way-gone.new.records
@@ -461,11 +446,9 @@ returns-clause-admitted g c =
     (record_in s.records) x.id (Some (rec_of x)) i) c.requires.coming) in
     let led1 : (q : _) → g.I.Finder.view c.put.new.self q
     ≡ update (same_key g.K.PartialEq.eq) (g.I.Finder.view s.index) (key_of inc.kept) (Some n) q =
-    update_alike (same_key g.K.PartialEq.eq) (same_key_laws g.K.PartialEq.eq laws) (g.I.Finder.view s.index)
-    (g.I.Finder.view c.put.new.self) (inc.kept.hash, c.args.key) (key_of inc.kept) (Some n)
-    (alike_key g.K.PartialEq.eq inc.kept.hash c.args.key inc.kept.key c.requires.same)
     (λ q. c.in-Ok.ensures.view q ∙ ap (λ (h : ℕ). update (same_key g.K.PartialEq.eq) (g.I.Finder.view s.index)
-    (h, c.args.key) (Some n) q) hash) in
+    (h, c.key-key.result.now) (Some n) q) hash ∙ ap (λ (k : g.row.K.Denot). update (same_key g.K.PartialEq.eq)
+    (g.I.Finder.view s.index) (inc.kept.hash, k) (Some n) q) c.key-key.ensures) in
     let item : (let i : Item = record {
       id = c.id-id.result;
       hash = c.hash-hash.result;

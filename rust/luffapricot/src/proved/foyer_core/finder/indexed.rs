@@ -4,7 +4,7 @@
 #[allow(unused_imports)]
 use crate::rattle_std::prelude::*;
 use crate::proved::foyer_core::finder::Finder;
-use crate::proved::foyer_core::indexer::{HashTableIndexer, Indexer};
+use crate::proved::foyer_core::indexer::{Indexer, insert_clone};
 use crate::proved::foyer_policy::{Key, Result};
 use crate::rattle_std::alloc::Global;
 
@@ -36,9 +36,8 @@ impl<K: Key, I: Indexer<K>> Finder<K> for Indexed<I> {
     }
 
     #[inline]
-    fn put(&mut self, hash: u64, key: K, _was: Option<usize>, slot: usize) -> Result<()> {
-        let _ = self.index.insert(hash, key, slot as u64)?;
-        Ok(())
+    fn put(&mut self, hash: u64, key: &K, _was: Option<usize>, slot: usize) -> Result<()> {
+        insert_clone(&mut self.index, hash, key, slot as u64)
     }
 
     #[inline]

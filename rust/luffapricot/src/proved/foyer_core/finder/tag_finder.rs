@@ -5,7 +5,7 @@
 use crate::rattle_std::prelude::*;
 use crate::proved::foyer_core::finder::Finder;
 use crate::proved::foyer_core::finder::key_tags::KeyTags;
-use crate::proved::foyer_core::indexer::{HashTableIndexer, Indexer};
+use crate::proved::foyer_core::indexer::{HashTableIndexer, Indexer, insert_clone};
 use crate::proved::foyer_policy::{Key, Result};
 use crate::rattle_std::alloc::Global;
 use crate::rattle_std::snapshot::Snapshot;
@@ -14,7 +14,7 @@ use crate::rattle_std::snapshot::Snapshot;
 const FAR: usize = u32::MAX as usize;
 
 /// A finder that takes eight bytes for each bucket and compares keys in the records. Slots from 2^32 - 1 on are in an
-/// index beside the tags.
+/// index beside the tags, which keeps clones of their keys.
 pub struct TagFinder<K: Key, I: Indexer<K> = HashTableIndexer<K>> {
     near: KeyTags<K>,
     far: I,
@@ -36,15 +36,14 @@ impl<K: Key, I: Indexer<K>> TagFinder<K, I> {
         Ok(())
     }
 
-    // Puts a slot under a key whose number fits no tag.
+    // Puts a slot whose number fits no tag under a clone of the key.
     #[cold]
     #[inline(never)]
-    fn put_far(&mut self, hash: u64, key: K, was: Option<usize>, slot: usize) -> Result<()> {
-        let seen = Snapshot::of(&key);
-        let _ = self.far.insert(hash, key, slot as u64)?;
+    fn put_far(&mut self, hash: u64, key: &K, was: Option<usize>, slot: usize) -> Result<()> {
+        insert_clone(&mut self.far, hash, key, slot as u64)?;
         if let Some(was) = was {
             if was < FAR {
-                self.near.remove(hash, seen, was);
+                self.near.remove(hash, Snapshot::of(key), was);
             }
         }
         Ok(())
@@ -70,9 +69,9 @@ impl<K: Key, I: Indexer<K>> Finder<K> for TagFinder<K, I> {
     }
 
     #[inline(always)]
-    fn put(&mut self, hash: u64, key: K, was: Option<usize>, slot: usize) -> Result<()> {
+    fn put(&mut self, hash: u64, key: &K, was: Option<usize>, slot: usize) -> Result<()> {
         if slot < FAR {
-            self.put_near(hash, &key, was, slot)
+            self.put_near(hash, key, was, slot)
         } else {
             self.put_far(hash, key, was, slot)
         }

@@ -14,13 +14,14 @@ impl<E: Eviction, K: Key, V: Value, P: Properties, I: Finder<K>> Store<E, K, V, 
     // Enters a record, for which there is room, in place of what is held under its id, and removes its key's record.
     // Returns nothing if the index has no room; nothing has changed.
     #[inline(always)]
-    pub(crate) fn admit(&mut self, key: K, slot: Slot<K, V, P>) -> Option<(usize, Option<Left<K, V, P>>)> {
+    pub(crate) fn admit(&mut self, slot: Slot<K, V, P>) -> Option<(usize, Option<Left<K, V, P>>)> {
         let hash = slot.hash();
         let weight = slot.weight();
         let hint = slot.properties().hint().unwrap_or(Hint::Normal);
         let expires = slot.properties().expiry();
         let id = slot.id();
-        let was = self.slot_under(hash, &key);
+        let key = slot.key();
+        let was = self.slot_under(hash, key);
         let stands = self.stands(id);
         let number = self.records.slot_for(stands);
         let Ok(()) = self.index.put(hash, key, was, number) else {

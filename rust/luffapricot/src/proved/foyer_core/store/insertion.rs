@@ -151,13 +151,13 @@ impl<E: Eviction, K: Key, V: Value, P: Properties, I: Finder<K>> Store<E, K, V, 
         leaves: &mut Vec<Leave<K, V, P>>,
     ) -> Option<usize> {
         let target = self.capacity.saturating_sub(slot.weight());
-        let Ok(key) = self.prepare(&mut slot, leaves) else {
+        let Ok(()) = self.prepare(&mut slot, leaves) else {
             return None;
         };
         let Ok(()) = self.evict_onto(now, leaves, target) else {
             return None;
         };
-        match self.admit(key, slot) {
+        match self.admit(slot) {
             Some((place, replaced)) => {
                 if let Some(left) = replaced {
                     leaves.push_reserved((Event::Replace, left));
@@ -168,11 +168,9 @@ impl<E: Eviction, K: Key, V: Value, P: Properties, I: Finder<K>> Store<E, K, V, 
         }
     }
 
-    // Makes room for one record and for what leaves, and clones the record's key. The slot gets the share that it
-    // leaves with.
+    // Makes room for one record and for what leaves. The slot gets the share that it leaves with.
     #[inline(always)]
-    fn prepare(&mut self, slot: &mut Slot<K, V, P>, leaves: &mut Vec<Leave<K, V, P>>) -> Result<K> {
-        let key = slot.key().try_clone()?;
+    fn prepare(&mut self, slot: &mut Slot<K, V, P>, leaves: &mut Vec<Leave<K, V, P>>) -> Result<()> {
         self.records.reserve()?;
         let Some(places) = self.records.count().checked_add(1) else {
             return Err(Error::new(Reason::NoMemory));
@@ -181,6 +179,6 @@ impl<E: Eviction, K: Key, V: Value, P: Properties, I: Finder<K>> Store<E, K, V, 
         // Mostly one leaves, and one more may be replaced.
         leaves.reserve(2)?;
         slot.come_in()?;
-        Ok(key)
+        Ok(())
     }
 }
