@@ -33,9 +33,8 @@ fn a_fetch_needs_a_clone_of_the_key_and_an_insert_none(rt: HostRuntime) -> Resul
     };
     assert_eq!(rt; (error.number(), session.entries()), (7, 0));
     let insert = OfKeys::Insert(0, Picky(7), 70, CacheProperties::default());
-    assert!(rt;
-        matches!(session.step(insert)?.answer, Answer::Entry { .. }) && session.entries() == 1
-    );
+    let reply = session.step(insert)?;
+    assert!(rt; matches!(reply.answer, Answer::Entry { .. }) && session.entries() == 1);
     let reply = session.step(OfKeys::GetOrFetch(0, Picky(8), None))?;
     assert!(rt; matches!(reply.answer, Answer::Lead { fetch: 0, token: 0 }));
     Ok(())
