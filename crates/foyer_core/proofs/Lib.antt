@@ -52,6 +52,7 @@ pub mod Looking
 pub mod Masks
 pub mod MomentLaws
 pub mod Moments
+pub mod Named
 pub mod NearLemmas
 pub mod NoEntryLemmas
 pub mod Observing

@@ -29,6 +29,8 @@ pub mod Stores
 pub mod Steps
 pub mod Settled
 pub mod NoEntry
+pub mod Holds
+pub mod Conditional
 pub mod CacheProperties
 pub mod Laws
 pub mod Observed

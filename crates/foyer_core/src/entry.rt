@@ -4,6 +4,7 @@ ghost use Rattle.std.specs.Prelude.{◌≡◌, IsNone, None, Some, false, true, 
 ghost use Rattle.foyer_policy.specs.declared.error.Reason.TheVariants.{NoMemory};
 ghost use Rattle.foyer_core.specs.Values.{body_of};
 
+use crate::hold::Hold;
 use crate::piece::Piece;
 use crate::share::Share;
 use foyer_policy::{Error, Event, Reason, Result, Source};
@@ -281,6 +282,20 @@ impl<K: Drop, V: Drop, P: Drop> CoreEntry<K, V, P> {
             Some(entry) => Ok(entry),
             None => Err(Error::new(Reason::NoMemory)),
         }
+    }
+
+    /// Returns the entry's handle by its name, which `unhold` of its core spends. Its shares go.
+    #[inline(always)]
+    pub fn into_hold(self) -> Hold
+        ensures { (result.hash ≡ self.kept.hash) × (result.id ≡ self.id) }
+    {
+        let hold = Hold {
+            hash: self.hash(),
+            id: self.id,
+            slot: self.slot(),
+        };
+        self.discard();
+        hold
     }
 
     /// Discards an entry whose core is gone. No core changes.

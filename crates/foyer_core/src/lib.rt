@@ -6,6 +6,7 @@ pub mod config;
 pub mod entry;
 pub mod filter;
 pub mod finder;
+pub mod hold;
 pub mod indexer;
 pub mod inflight;
 pub mod outcome;
@@ -29,11 +30,12 @@ pub use config::RawCacheConfig;
 pub use entry::{CoreEntry, Leave, Left};
 pub use filter::{AdmitAll, Filter};
 pub use finder::{Finder, Indexed, TagFinder};
+pub use hold::{Hold, RecordRef};
 pub use indexer::{HashTableIndexer, Indexer, Sentry};
 pub use inflight::{Enqueue, FetchOrTake, InflightManager};
 pub use outcome::{
     Answers, Ended, FetchTarget, Foreign, Got, Inserted, InsertedOnto, Lookup, Outcome, Refused,
-    Waiting,
+    ReplaceResult, Waiting,
 };
 pub use piece::Piece;
 pub use properties::{CacheProperties, marked};

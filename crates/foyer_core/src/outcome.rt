@@ -6,6 +6,7 @@ ghost use Rattle.foyer_core.specs.Onto.{shared_out};
 ghost use Rattle.foyer_core.specs.Waited.{ending_of, entries_in, got_of, handed_out, lost};
 
 use crate::entry::{CoreEntry, Leave};
+use crate::hold::Hold;
 use crate::piece::Piece;
 use foyer_policy::{Error, Reason};
 use std::alloc::Global;
@@ -188,6 +189,14 @@ pub enum Lookup<K, V, P, R> {
         /// The token to wait with.
         token: u64,
     },
+}
+
+/// What a conditional insert returns.
+pub enum ReplaceResult<K, V, P, N> {
+    /// The key still had what was seen: the record was inserted.
+    Inserted(InsertedOnto<K, V, P, N>),
+    /// It hadn't, and nothing was inserted: a handle of the record that it has, if there is one.
+    Changed(Option<Hold>),
 }
 
 /// What the end of a fetch returns.

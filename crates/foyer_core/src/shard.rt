@@ -17,9 +17,11 @@ use std::alloc::Global;
 
 mod bulk;
 mod clearing;
+mod conditional;
 mod ending;
 mod entries;
 mod fetches;
+mod holds;
 mod insertion;
 mod keys;
 mod questions;

@@ -16,6 +16,7 @@ mod bulk;
 mod drops;
 mod entries;
 mod fetches;
+mod holds;
 mod memory;
 mod moments;
 mod refused;

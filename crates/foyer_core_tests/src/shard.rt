@@ -12,6 +12,7 @@ use std::process::Abort;
 
 mod ending;
 mod fetches;
+mod holds;
 mod resident_pieces;
 
 // A shard over numbers, where numbers wait for fetches and numbers build them.

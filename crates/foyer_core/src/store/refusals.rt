@@ -196,7 +196,7 @@ impl<E: Eviction, K: Key, V: Value, P: Properties, I: Finder<K>> Store<E, K, V, 
     }
 
     // The weight of a key's record, if that is pinned.
-    fn own_pinned(&self, hash: u64, key: &K) -> usize
+    pub(super) fn own_pinned(&self, hash: u64, key: &K) -> usize
         ensures { result + pinned_beside (meaning_of self.now) (state_of self.now) (hash, key.now) ≡ weight_of (E.model.pinned (E.view self.now.eviction)) }
     {
         let Some(slot) = self.slot_under(hash, key) else {

@@ -3,6 +3,7 @@
 // Written by rust/erase/erase.py from crates/foyer_core/src/entry.rt: change that.
 #[allow(unused_imports)]
 use crate::rattle_std::prelude::*;
+use crate::proved::foyer_core::hold::Hold;
 use crate::proved::foyer_core::piece::Piece;
 use crate::proved::foyer_core::share::Share;
 use crate::proved::foyer_policy::{Error, Event, Reason, Result, Source};
@@ -211,6 +212,18 @@ impl<K, V, P> CoreEntry<K, V, P> {
             Some(entry) => Ok(entry),
             None => Err(Error::new(Reason::NoMemory)),
         }
+    }
+
+    /// Returns the entry's handle by its name, which `unhold` of its core spends. Its shares go.
+    #[inline(always)]
+    pub fn into_hold(self) -> Hold {
+        let hold = Hold {
+            hash: self.hash(),
+            id: self.id,
+            slot: self.slot(),
+        };
+        self.discard();
+        hold
     }
 
     /// Discards an entry whose core is gone. No core changes.

@@ -8,6 +8,7 @@ pub mod config;
 pub mod entry;
 pub mod filter;
 pub mod finder;
+pub mod hold;
 pub mod indexer;
 pub mod inflight;
 pub mod outcome;
@@ -31,10 +32,12 @@ pub use config::RawCacheConfig;
 pub use entry::{CoreEntry, Leave, Left};
 pub use filter::{AdmitAll, Filter};
 pub use finder::{Finder, Indexed, TagFinder};
+pub use hold::{Hold, RecordRef};
 pub use indexer::{HashTableIndexer, Indexer, Sentry};
 pub use inflight::{Enqueue, FetchOrTake, InflightManager};
 pub use outcome::{
-    Answers, Ended, FetchTarget, Foreign, Got, Inserted, InsertedOnto, Lookup, Outcome, Refused, Waiting,
+    Answers, Ended, FetchTarget, Foreign, Got, Inserted, InsertedOnto, Lookup, Outcome, Refused,
+    ReplaceResult, Waiting,
 };
 pub use piece::Piece;
 pub use properties::{CacheProperties, marked};

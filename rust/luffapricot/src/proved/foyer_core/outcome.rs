@@ -4,6 +4,7 @@
 #[allow(unused_imports)]
 use crate::rattle_std::prelude::*;
 use crate::proved::foyer_core::entry::{CoreEntry, Leave};
+use crate::proved::foyer_core::hold::Hold;
 use crate::proved::foyer_core::piece::Piece;
 use crate::proved::foyer_policy::{Error, Reason};
 use crate::rattle_std::alloc::Global;
@@ -174,6 +175,14 @@ pub enum Lookup<K, V, P, R> {
         /// The token to wait with.
         token: u64,
     },
+}
+
+/// What a conditional insert returns.
+pub enum ReplaceResult<K, V, P, N> {
+    /// The key still had what was seen: the record was inserted.
+    Inserted(InsertedOnto<K, V, P, N>),
+    /// It hadn't, and nothing was inserted: a handle of the record that it has, if there is one.
+    Changed(Option<Hold>),
 }
 
 /// What the end of a fetch returns.

@@ -13,9 +13,11 @@ use crate::rattle_std::alloc::Global;
 
 mod bulk;
 mod clearing;
+mod conditional;
 mod ending;
 mod entries;
 mod fetches;
+mod holds;
 mod insertion;
 mod keys;
 mod questions;

@@ -111,7 +111,7 @@ impl<E: Eviction, K: Key, V: Value, P: Properties, I: Finder<K>> Store<E, K, V, 
 
     // The weight of a key's record, if that is pinned.
     #[inline]
-    fn own_pinned(&self, hash: u64, key: &K) -> usize {
+    pub(crate) fn own_pinned(&self, hash: u64, key: &K) -> usize {
         let Some(slot) = self.slot_under(hash, key) else {
             return 0;
         };

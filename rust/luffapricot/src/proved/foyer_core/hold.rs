@@ -1,0 +1,73 @@
+//! Handles by name, and what is read of a record that is named.
+
+// Written by rust/erase/erase.py from crates/foyer_core/src/hold.rt: change that.
+#[allow(unused_imports)]
+use crate::rattle_std::prelude::*;
+use crate::proved::foyer_core::slot::Slot;
+
+/// The name of a handle that a shard counts: it has no share of the record's data, and fits three words.
+///
+/// It must be spent, by `unhold` of its core. A copy is the same handle, and not one more.
+#[derive(Clone, Copy, Debug, PartialEq, Eq)]
+pub struct Hold {
+    /// The key's hash, which picks the shard.
+    pub hash: u64,
+    /// The record's id, which its shard gives once.
+    pub id: u64,
+    /// The slot that the record may be in. It saves a search; another number does no harm.
+    pub slot: usize,
+}
+
+/// A record that a shard has, for reading while the shard isn't changed.
+pub struct RecordRef<'a, K, V, P> {
+    slot: &'a Slot<K, V, P>,
+}
+
+impl<'a, K, V, P> RecordRef<'a, K, V, P> {
+    #[inline(always)]
+    pub(crate) fn new(slot: &'a Slot<K, V, P>) -> Self {
+        RecordRef { slot }
+    }
+
+    /// Returns the key.
+    #[inline(always)]
+    pub fn key(&self) -> &'a K {
+        self.slot.key()
+    }
+
+    /// Returns the value.
+    #[inline(always)]
+    pub fn value(&self) -> &'a V {
+        self.slot.value()
+    }
+
+    /// Returns the properties.
+    #[inline(always)]
+    pub fn properties(&self) -> &'a P {
+        self.slot.properties()
+    }
+
+    /// Returns the key's hash.
+    #[inline(always)]
+    pub fn hash(&self) -> u64 {
+        self.slot.hash()
+    }
+
+    /// Returns the weight.
+    #[inline(always)]
+    pub fn weight(&self) -> usize {
+        self.slot.weight()
+    }
+
+    /// Returns how many handles the record has.
+    #[inline(always)]
+    pub fn refs(&self) -> usize {
+        self.slot.handles()
+    }
+
+    /// Returns whether the record is no longer resident: it left, or was replaced.
+    #[inline(always)]
+    pub fn is_outdated(&self) -> bool {
+        !self.slot.is_resident()
+    }
+}
