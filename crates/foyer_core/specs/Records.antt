@@ -1,9 +1,9 @@
 -- What contracts see of a shard's records.
-use Rattle.std.specs.Prelude.{ℕ, Option, length, unwrap_or}
+use Rattle.std.specs.Prelude.{ℕ, Option, count_by, is_some, length, unwrap_or}
 use Rattle.foyer_core.specs.Slots.{get, HasRoomFor}
 use Rattle.foyer_core.specs.declared.records.Records.{Records}
 use Rattle.foyer_core.specs.Values.{Kept, Rec}
-use Rattle.foyer_core.specs.Ids.{slot_of, HasRoomForId}
+use Rattle.foyer_core.specs.Ids.{slot_of, HasPlacesFor, HasRoomForId}
 use Rattle.foyer_core.specs.Table.{record_by, id_by}
 
 module _ {K V P : Type 0} where
@@ -34,3 +34,7 @@ module _ {K V P : Type 0} where
   -- one more record fits with no allocation
   abbrev pub HasRoom : Records K V P → Type 0
   HasRoom t = HasRoomFor t.slots 1 × HasRoomForId t.ids
+
+  -- and no place for its id is missing
+  abbrev pub HasAllRoom : Records K V P → Type 0
+  HasAllRoom t = HasRoom t × HasPlacesFor t.ids (count_by is_some t.slots.slots)

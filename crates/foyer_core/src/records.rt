@@ -1,6 +1,6 @@
 //! The records of a shard, by slot and by id.
 
-ghost use Rattle.std.specs.Prelude.{◌≡◌, ℕ, ◌+◌, ◌-◌, ◌<◌, ◌≤◌, ◌^◌, Option, Some, None, IfErr, IfOk, OnOk, OnErr, IsSomeAnd, IsSome, IsTrue, nat_eq, option_copied, option_map, true};
+ghost use Rattle.std.specs.Prelude.{◌≡◌, ℕ, ◌+◌, ◌-◌, ◌<◌, ◌≤◌, ◌^◌, Option, Some, None, IfErr, IfOk, OnOk, OnErr, IsOk, IsSomeAnd, IsSome, IsTrue, nat_eq, option_copied, option_map, true};
 ghost use Rattle.std.specs.Map.{update};
 ghost use Rattle.foyer_core.specs.Slots.{entries, get};
 ghost use Rattle.foyer_policy.specs.declared.error.Reason.TheVariants.{NoMemory};
@@ -28,7 +28,7 @@ pub struct Records<K: Drop, V: Drop, P: Drop> {
 }
 
 impl<K: Drop, V: Drop, P: Drop> Records<K, V, P> {
-    ghost use Rattle.foyer_core.specs.Records.{slot_in, number_of, record_in, id_in, slot_to, count_in, HasRoom};
+    ghost use Rattle.foyer_core.specs.Records.{slot_in, number_of, record_in, id_in, slot_to, count_in, HasAllRoom, HasRoom};
 
     pub fn new(alloc: Global) -> Self
         ensures slots { (n : ℕ) → slot_in result n ≡ None }
@@ -51,6 +51,7 @@ impl<K: Drop, V: Drop, P: Drop> Records<K, V, P> {
         ensures slots { (n : ℕ) → slot_in self.new n ≡ slot_in self.old n }
         ensures ids { (id : ℕ) → number_of self.new id ≡ number_of self.old id }
         ensures count { count_in self.new ≡ count_in self.old }
+        ensures granted { HasAllRoom self.old → IsOk result }
     {
         let Ok(()) = self.slots.reserve() else {
             return Err(Error::new(Reason::NoMemory));

@@ -3,7 +3,7 @@
 //! Ids are given in order, and their records leave in about that order. So the last ids have a place each in a ring,
 //! and an id whose record outstays the ring moves to a map.
 
-ghost use Rattle.std.specs.Prelude.{◌≡◌, ◌≢◌, ℕ, ◌+◌, ◌*◌, ◌%◌, ◌^◌, ◌<◌, ◌≤◌, Some, None, IfOk, IfSome, OnOk, length, slice_get, nat_eq, vec_len, true};
+ghost use Rattle.std.specs.Prelude.{◌≡◌, ◌≢◌, ℕ, ◌+◌, ◌*◌, ◌%◌, ◌^◌, ◌<◌, ◌≤◌, Some, None, IfOk, IfSome, IsOk, OnOk, length, slice_get, nat_eq, vec_len, true};
 ghost use Rattle.std.specs.HashMap.{get as get_key, spare};
 ghost use Rattle.std.specs.Map.{update};
 ghost use Rattle.foyer_core.specs.Near.{AreApart, is_recent as is_recent_by, or_slot, slot_at, slot_near};
@@ -68,7 +68,7 @@ pub(crate) struct Ids {
 }
 
 impl Ids {
-    ghost use Rattle.foyer_core.specs.Ids.{HasRoomForId, slot_of};
+    ghost use Rattle.foyer_core.specs.Ids.{HasPlacesFor, HasRoomForId, slot_of};
 
     /// Creates a table in which no id has a slot.
     pub(crate) fn new(alloc: Global) -> Self
@@ -88,6 +88,7 @@ impl Ids {
     pub(crate) fn reserve(&mut self, records: usize) -> Result<(), AllocError>
         ensures room { OnOk result (HasRoomForId self.new) }
         ensures ids { (id : ℕ) → slot_of self.new id ≡ slot_of self.old id }
+        ensures granted { HasRoomForId self.old → HasPlacesFor self.old records → IsOk result }
     {
         if self.far.capacity() == self.far.len() {
             self.far.reserve(1)?;
