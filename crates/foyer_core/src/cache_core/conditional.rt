@@ -34,8 +34,8 @@ impl<
     ghost use Rattle.foyer_core.specs.Holds.{Holds};
     ghost use Rattle.foyer_core.specs.Onto.{insertion_onto};
 
-    /// Returns whether the key still has what was seen: the record of this id, expired or not, or, for `None`, no record
-    /// that a `get` at `now` finds. Takes no memory.
+    /// Returns whether the key still has what was seen: the record of this id, expired or not, or, for `None`, no
+    /// record that a `get` at `now` finds. Takes no memory.
     #[inline(always)]
     pub fn is_current(&self, now: u64, key: &K, seen: Option<u64>) -> bool
         ensures { let hash = S.hash_of (core_of self.now).hash_builder (K.hash_input key.now) in
@@ -45,8 +45,8 @@ impl<
         self.shards[self.shard_index(hash)].is_current(now, hash, key, seen)
     }
 
-    /// Inserts a record as `insert_with_properties_onto` does, if the key still has what was seen, as `is_current` says.
-    /// If not, nothing changes but that the key's record is held, as by `hold`.
+    /// Inserts a record as `insert_with_properties_onto` does, if the key still has what was seen, as `is_current`
+    /// says. If not, nothing changes but that the key's record is held, as by `hold`.
     ///
     /// # Errors
     /// Those of the insert, or of the `hold`.
@@ -92,8 +92,8 @@ impl<
         }
     }
 
-    /// Returns whether a record of this key and weight fits its shard's capacity beside what is pinned of other keys. If
-    /// not, an insert of it would evict all else, and leave the shard's usage above its capacity. Takes no memory.
+    /// Returns whether a record of this key and weight fits its shard's capacity beside what is pinned of other keys.
+    /// If not, an insert of it would evict all else, and leave the shard's usage above its capacity. Takes no memory.
     pub fn would_fit(&self, key: &K, weight: usize) -> bool
         ensures { let hash = S.hash_of (core_of self.now).hash_builder (K.hash_input key.now) in
             IsSomeAnd (shard_at (core_of self.now) hash)

@@ -56,8 +56,8 @@ impl<
 
     /// Takes a handle back by its name, and returns what left with it.
     ///
-    /// With its last handle a resident record is released, a phantom one leaves, and any other is forgotten. A name whose
-    /// record has no handle in its shard is `Foreign`, and nothing has changed. Takes no memory.
+    /// With its last handle a resident record is released, a phantom one leaves, and any other is forgotten. A name
+    /// whose record has no handle in its shard is `Foreign`, and nothing has changed. Takes no memory.
     #[inline(always)]
     pub fn unhold(&mut self, hold: Hold) -> std::result::Result<Option<Leave<K, V, P>>, Foreign>
         ensures held { IsOk result ↔ IsHeld (core_of self.old) hold }

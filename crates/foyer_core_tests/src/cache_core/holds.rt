@@ -78,7 +78,7 @@ fn a_hold_is_found_by_its_id(rt: HostRuntime) -> Done {
     Ok(())
 }
 
-// A use is counted: Sieve passes the record over. What has expired isn't held, and a phantom leaves with its last handle.
+// A use is counted: Sieve passes the record over. What has expired isn't held, a phantom leaves with its last handle.
 #[test]
 fn holds_count_uses(rt: HostRuntime) -> Done {
     let mut core: Core<Sieve> = CacheCore::new(rt.alloc(), config(2, 1))?;
