@@ -301,3 +301,27 @@ fn a_part_of_a_third_is_a_third() {
     it.cache.put(4, 4);
     assert_eq!(it.left(), all(Event::Evict, [2]));
 }
+
+#[test]
+fn a_fetch_or_maker_that_began_before_anything_expired_evicts_what_has_expired_first() {
+    let made = || {
+        let it = Watched::new(2, 1, FifoConfig {});
+        it.at(1 << 40);
+        it
+    };
+    let fill = |it: &Watched| {
+        it.cache.put(1, 1);
+        it.cache.put_with_properties(2, 2, nanoseconds(0));
+    };
+    let it = made();
+    let look = it.cache.get_or_fetch(&3, || async { Ok::<_, Error>(3) });
+    fill(&it);
+    block_on(look).unwrap();
+    assert_eq!(it.left(), all(Event::Evict, [2]));
+    let it = made();
+    it.cache.get_or_insert_with(&3, || {
+        fill(&it);
+        3
+    });
+    assert_eq!(it.left(), all(Event::Evict, [2]));
+}
