@@ -117,7 +117,7 @@ impl<K: Key, V: Value, S: BuildHasher + Send + Sync + 'static> CacheBuilder<K, V
     }
 
     /// Sets a clock, which returns the time since any origin, in place of the system's monotonic one. It is read only
-    /// once a record has a time to live, and may go back.
+    /// once a record has a time to live, or if a value is fetched or made, and may go back.
     pub fn with_clock(mut self, clock: impl Fn() -> Duration + Send + Sync + 'static) -> Self {
         self.clock = Some(Source::User(Arc::new(clock)));
         self

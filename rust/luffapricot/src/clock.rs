@@ -44,9 +44,10 @@ impl Clock {
         Some(self.read().saturating_add(nanoseconds(time_to_live)))
     }
 
+    /// Returns the current time, also for a call during which others give the first time to live.
     #[cold]
     #[inline(never)]
-    fn read(&self) -> u64 {
+    pub(crate) fn read(&self) -> u64 {
         match &self.source {
             Source::System(start) => nanoseconds(start.elapsed()),
             Source::User(clock) => nanoseconds(clock()),

@@ -211,7 +211,7 @@ where
         let (fo, fr) = (|| caught(fo).flatten().map(Build::new), || fr().map(Build::new));
         let look = resumed(|| {
             let name = Name::new(key.to_owned());
-            self.inner.get_or_fetch_inner(self.clock.now(), &name, fo, fr, context, &mut taken)
+            self.inner.get_or_fetch_inner(self.clock.read(), &name, fo, fr, context, &mut taken)
         });
         let look = Resumed::new(look.map_err(|error| Some(error.into())));
         let task = taken.0.and_then(|task| self.run(Box::pin(task)));

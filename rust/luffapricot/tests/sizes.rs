@@ -99,10 +99,11 @@ fn calls_over_all_shards_come_to_each_though_some_are_empty() {
         it.cache.resize(shards as usize).unwrap();
         let (kept, gone): (Vec<u64>, Vec<u64>) = ordered.iter().partition(|key| **key / shards == 1);
         assert_eq!((it.left(), it.cache.keys(), it.cache.capacity()), (all(Event::Evict, gone), kept.clone(), shards as usize));
-        block_on(it.cache.flush_if(|key, _| key % shards == 1));
+        block_on(it.cache.flush_if(|key, _| (key + 1) % shards == 0));
+        let last = 2 * shards - 1;
+        assert_eq!(it.left(), all(Event::Evict, [last]));
         block_on(it.cache.flush());
-        let flushed = [1 + shards].into_iter().chain(kept.into_iter().filter(|key| key % shards != 1));
-        assert_eq!(it.left(), all(Event::Evict, flushed));
+        assert_eq!(it.left(), all(Event::Evict, kept.into_iter().filter(|key| *key != last)));
 
         let Watched { cache, left, .. } = made();
         let owner = cache.clone();
@@ -209,7 +210,7 @@ fn the_longest_life_is_for_ever() {
     let forever = CacheProperties::default().with_time_to_live(Duration::MAX);
     let shorter = CacheProperties::default().with_time_to_live(Duration::from_secs(1));
     assert_eq!(Properties::time_to_live(&shorter), Some(Duration::from_secs(1)));
-    for life in [Duration::MAX, Duration::from_secs(u64::MAX), Duration::from_nanos(u64::MAX)] {
+    for life in [Duration::MAX, Duration::from_secs(1 << 55), Duration::from_nanos(u64::MAX)] {
         let it = Watched::of(CacheBuilder::new(100).with_time_to_live(life));
         it.at(1 << 50);
         it.cache.put(1, 1);
@@ -258,7 +259,12 @@ fn records_that_weigh_nothing_evict_nothing() {
     assert_eq!((it.cache.get(&10).unwrap().weight(), it.cache.get(&9).unwrap().weight()), (0, 1));
     it.cache.put(MANY, 1 << 40);
     assert_eq!(it.left(), all(Event::Evict, 0..10));
-    assert_eq!(it.cache.usage(), 1 << 40);
+    it.cache.resize((1 << 40) + 5).unwrap();
+    it.cache.put(0, 5);
+    assert_eq!((it.left(), it.cache.usage(), it.cache.capacity()), (vec![], (1 << 40) + 5, (1 << 40) + 5));
+    it.cache.put(1, 1);
+    let left: Vec<_> = it.left().into_iter().filter(|it| it.1 == MANY || it.1 < 10).collect();
+    assert_eq!(left, all(Event::Evict, [MANY]));
 }
 
 #[test]
@@ -279,7 +285,9 @@ fn a_life_begins_with_the_call_or_if_the_value_brings_it_with_the_value() {
         Ok::<_, Error>(FetchTarget::Entry { value: 3, properties: nanoseconds(100) })
     };
     block_on(it.cache.get_or_fetch(&3, fetch)).unwrap();
-    for (time, found) in [(99, [true; 3]), (100, [false, true, true]), (180, [false, false, true]), (190, [false; 3])] {
+    let second = (100, [false, true, true]);
+    let third = (180, [false, false, true]);
+    for (time, found) in [(99, [true; 3]), second, (179, second.1), third, (189, third.1), (190, [false; 3])] {
         it.at(start + time);
         assert_eq!([1, 2, 3].map(|key| it.cache.contains(&key)), found, "at {time}");
     }
@@ -291,5 +299,29 @@ fn a_part_of_a_third_is_a_third() {
     it.cache.put(1, 1);
     (2..4).for_each(|key| it.cache.put_with_properties(key, key, CacheProperties::default().with_hint(Hint::Low)));
     it.cache.put(4, 4);
+    assert_eq!(it.left(), all(Event::Evict, [2]));
+}
+
+#[test]
+fn a_fetch_or_maker_that_began_before_anything_expired_evicts_what_has_expired_first() {
+    let made = || {
+        let it = Watched::new(2, 1, FifoConfig {});
+        it.at(1 << 40);
+        it
+    };
+    let fill = |it: &Watched| {
+        it.cache.put(1, 1);
+        it.cache.put_with_properties(2, 2, nanoseconds(0));
+    };
+    let it = made();
+    let look = it.cache.get_or_fetch(&3, || async { Ok::<_, Error>(3) });
+    fill(&it);
+    block_on(look).unwrap();
+    assert_eq!(it.left(), all(Event::Evict, [2]));
+    let it = made();
+    it.cache.get_or_insert_with(&3, || {
+        fill(&it);
+        3
+    });
     assert_eq!(it.left(), all(Event::Evict, [2]));
 }

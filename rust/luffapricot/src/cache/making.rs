@@ -102,7 +102,7 @@ where
         };
         let entry = resumed(|| {
             let name = Name::new(key.to_owned());
-            self.inner.get_or_insert_with_properties(self.clock.now(), &name, make)
+            self.inner.get_or_insert_with_properties(self.clock.read(), &name, make)
         });
         if let Some(panic) = panic {
             resume_unwind(panic);
