@@ -3,6 +3,7 @@
 ghost use Rattle.std.specs.Prelude.{◌≡◌, ⊤, IsErr, IsNone, IsOk, IsSome, IsSomeAnd, IfErr, MatchOption, IfOk, IfSome, Ok, Err, Some, None, true, false};
 ghost use Rattle.futures.specs.Task.{Covers, Keeps};
 ghost use Rattle.futures.specs.Poll.{IfReady, OnPending};
+ghost use Rattle.futures.specs.Channel.{completed_source};
 ghost use Rattle.foyer_policy.specs.declared.error.Reason.TheVariants.{Spent};
 ghost use Rattle.foyer_raw.specs.Polls.{GivesAny};
 

@@ -28,7 +28,7 @@ pub(crate) struct Fetch {
 impl Fetch {
     // Its key with the hash.
     pub(crate) fn hashed<'a, K>(&self, key: &'a K) -> Hashed<'a, K>
-        ensures { result ≡ (self.now.hash, key.now) }
+        ensures { result ≡ (self.entry.now.hash, key.now) }
     {
         Hashed::new(self.hash, key)
     }
