@@ -2,6 +2,9 @@
 #include "../shard.h"
 #include "check.h"
 
+static const luffa_at NOW = {0};
+static const luffa_hashed HASH = {1}, OTHER = {2};
+
 /* Each call of a shard that holds no cache changes nothing. */
 static void all_closed(luffa_shard *shard) {
     static const luffa_terms TERMS = {.weight = 1};
@@ -11,24 +14,24 @@ static void all_closed(luffa_shard *shard) {
     luffa_load load = {.usage = 77};
     size_t len = 77, number = 77;
     uint8_t key[1] = {1};
-    CHECK(luffa_shard_insert(shard, 0, 1, key, 1, key, 1, 1, 0) == LUFFA_NOT_OPEN);
-    CHECK(luffa_shard_insert_entry(shard, 0, 1, key, 1, key, 1, &TERMS, &record) == LUFFA_NOT_OPEN);
-    CHECK(luffa_shard_get(shard, 0, 1, key, 1, key, 1, &len) == LUFFA_NOT_OPEN);
-    CHECK(luffa_shard_get_entry(shard, 0, 1, key, 1, &record) == LUFFA_NOT_OPEN);
-    CHECK(luffa_shard_remove(shard, 1, key, 1, &record) == LUFFA_NOT_OPEN);
-    CHECK(luffa_shard_contains(shard, 0, 1, key, 1) == LUFFA_NOT_OPEN);
-    CHECK(luffa_shard_touch(shard, 0, 1, key, 1) == LUFFA_NOT_OPEN);
+    CHECK(luffa_shard_insert(shard, NOW, HASH, key, 1, key, 1, 1, 0) == LUFFA_NOT_OPEN);
+    CHECK(luffa_shard_insert_entry(shard, NOW, HASH, key, 1, key, 1, &TERMS, &record) == LUFFA_NOT_OPEN);
+    CHECK(luffa_shard_get(shard, NOW, HASH, key, 1, key, 1, &len) == LUFFA_NOT_OPEN);
+    CHECK(luffa_shard_get_entry(shard, NOW, HASH, key, 1, &record) == LUFFA_NOT_OPEN);
+    CHECK(luffa_shard_remove(shard, HASH, key, 1, &record) == LUFFA_NOT_OPEN);
+    CHECK(luffa_shard_contains(shard, NOW, HASH, key, 1) == LUFFA_NOT_OPEN);
+    CHECK(luffa_shard_touch(shard, NOW, HASH, key, 1) == LUFFA_NOT_OPEN);
     CHECK(luffa_shard_release(shard, 0) == LUFFA_NOT_OPEN);
-    CHECK(luffa_shard_resize(shard, 0, 1) == LUFFA_NOT_OPEN);
-    CHECK(luffa_shard_evict_all(shard, 0) == LUFFA_NOT_OPEN);
+    CHECK(luffa_shard_resize(shard, NOW, 1) == LUFFA_NOT_OPEN);
+    CHECK(luffa_shard_evict_all(shard, NOW) == LUFFA_NOT_OPEN);
     CHECK(luffa_shard_clear(shard) == LUFFA_NOT_OPEN);
     CHECK(luffa_shard_reconfigure(shard, &policy) == LUFFA_NOT_OPEN);
     CHECK(luffa_shard_load(shard, &load) == LUFFA_NOT_OPEN);
     CHECK(luffa_shard_take_left(shard, &number, &len) == LUFFA_NOT_OPEN);
     CHECK(luffa_shard_show_left(shard, 0, 0, &record) == LUFFA_NOT_OPEN);
-    CHECK(luffa_shard_fetch(shard, 0, 1, key, 1, &record, &fetch) == LUFFA_NOT_OPEN);
-    CHECK(luffa_shard_complete(shard, 0, 1, key, 1, 0, key, 1, &TERMS) == LUFFA_NOT_OPEN);
-    CHECK(luffa_shard_cancel(shard, 1, key, 1, 0) == LUFFA_NOT_OPEN);
+    CHECK(luffa_shard_fetch(shard, NOW, HASH, key, 1, &record, &fetch) == LUFFA_NOT_OPEN);
+    CHECK(luffa_shard_complete(shard, NOW, HASH, key, 1, 0, key, 1, &TERMS) == LUFFA_NOT_OPEN);
+    CHECK(luffa_shard_cancel(shard, HASH, key, 1, 0) == LUFFA_NOT_OPEN);
     CHECK(luffa_shard_answered(shard, 0, &record) == LUFFA_NOT_OPEN);
     CHECK(luffa_shard_destroy(shard) == LUFFA_NOT_OPEN);
     CHECK(!shard->is_open && len == 77 && number == 77 && record.number == 77 && load.usage == 77);
@@ -48,17 +51,17 @@ static void wrong_numbers(luffa_shard *shard) {
         CHECK(luffa_shard_show_left(shard, numbers[i], 0, &record) == LUFFA_MISSING);
     }
     CHECK(luffa_shard_take_left(shard, &number, &count) == LUFFA_MISSING);
-    CHECK(luffa_shard_fetch(shard, 0, 1, key, 1, &record, &fetch) == LUFFA_LEAD);
+    CHECK(luffa_shard_fetch(shard, NOW, HASH, key, 1, &record, &fetch) == LUFFA_LEAD);
     number = record.number;
     CHECK(luffa_shard_answered(shard, number, &record) == LUFFA_WAIT &&
           luffa_shard_release(shard, number) == LUFFA_WAIT);
     CHECK(luffa_shard_show_left(shard, number, 0, &record) == LUFFA_MISSING);
-    CHECK(luffa_shard_complete(shard, 0, 2, other, 1, fetch.fetch, key, 1, &terms) == LUFFA_MISSING);
-    CHECK(luffa_shard_complete(shard, 0, 1, key, 1, fetch.fetch + 1, key, 1, &terms) == LUFFA_MISSING);
-    CHECK(luffa_shard_cancel(shard, 1, key, 1, fetch.fetch + 1) == LUFFA_MISSING);
+    CHECK(luffa_shard_complete(shard, NOW, OTHER, other, 1, fetch.fetch, key, 1, &terms) == LUFFA_MISSING);
+    CHECK(luffa_shard_complete(shard, NOW, HASH, key, 1, fetch.fetch + 1, key, 1, &terms) == LUFFA_MISSING);
+    CHECK(luffa_shard_cancel(shard, HASH, key, 1, fetch.fetch + 1) == LUFFA_MISSING);
     CHECK(luffa_shard_answered(shard, number, &record) == LUFFA_WAIT);
-    CHECK(luffa_shard_cancel(shard, 1, key, 1, fetch.fetch) == LUFFA_OK);
-    CHECK(luffa_shard_cancel(shard, 1, key, 1, fetch.fetch) == LUFFA_MISSING);
+    CHECK(luffa_shard_cancel(shard, HASH, key, 1, fetch.fetch) == LUFFA_OK);
+    CHECK(luffa_shard_cancel(shard, HASH, key, 1, fetch.fetch) == LUFFA_MISSING);
     CHECK(luffa_shard_answered(shard, number, &record) == LUFFA_CANCELLED);
     CHECK(luffa_shard_release(shard, number) == LUFFA_OK && luffa_shard_release(shard, number) == LUFFA_MISSING);
 }
@@ -68,9 +71,10 @@ static void untold(luffa_shard *shard) {
     luffa_record record;
     size_t number, count;
     for (uint64_t key = 0; key < 5; key++)
-        CHECK(luffa_shard_insert(shard, 0, key, (uint8_t *)&key, 8, (uint8_t *)&key, 8, 1, 0) == LUFFA_OK);
-    CHECK(luffa_shard_clear(shard) == LUFFA_UNTOLD && luffa_shard_resize(shard, 0, 9) == LUFFA_UNTOLD);
-    CHECK(luffa_shard_evict_all(shard, 0) == LUFFA_UNTOLD);
+        CHECK(luffa_shard_insert(shard, NOW, (luffa_hashed){key}, (uint8_t *)&key, 8, (uint8_t *)&key, 8, 1, 0) ==
+              LUFFA_OK);
+    CHECK(luffa_shard_clear(shard) == LUFFA_UNTOLD && luffa_shard_resize(shard, NOW, 9) == LUFFA_UNTOLD);
+    CHECK(luffa_shard_evict_all(shard, NOW) == LUFFA_UNTOLD);
     CHECK(luffa_shard_take_left(shard, &number, &count) == LUFFA_OK && count == 3);
     for (uint64_t key = 0; key < count; key++) { /* FIFO, so in order */
         CHECK(luffa_shard_show_left(shard, number, key, &record) == LUFFA_OK && record.event == LUFFA_EVICT);
