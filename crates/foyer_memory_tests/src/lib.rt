@@ -12,6 +12,8 @@ mod fetches;
 #[cfg(test)]
 mod guide;
 #[cfg(test)]
+mod made;
+#[cfg(test)]
 mod moments;
 #[cfg(test)]
 mod no_entry;
@@ -29,3 +31,5 @@ mod testing;
 mod threads;
 #[cfg(test)]
 mod waits;
+#[cfg(test)]
+mod weights;

@@ -1,44 +1,25 @@
-//! Calls that make no entry, and a maker that brings its value's properties, in a cache of each policy.
+//! Calls that make no entry, in a cache of each policy.
 
-use crate::testing::{
-    Cache, Fetch, Outcome, all_policies, at_once, builder, finish, given, number,
-};
-use foyer_core::{AdmitAll, Limits, Weighter};
-use foyer_memory::{Cache as CacheOf, CacheBuilder, CacheProperties, EvictionConfig, Stats};
-use foyer_policy::{Fault, ModHasher, Properties};
-use foyer_raw::{Direct, ListSpawner};
+use crate::testing::{Cache, Outcome, all_policies, at_once, builder, finish, given, number};
+use foyer_core::Limits;
+use foyer_memory::{CacheProperties, EvictionConfig, Stats};
+use foyer_policy::Properties;
+use foyer_raw::ListSpawner;
 use foyer_raw_tests::notes::Note::{Evict, Piece, Remove, Replace};
-use foyer_raw_tests::notes::{Ear, Notes, Tube};
+use foyer_raw_tests::notes::{Notes, Tube};
 use log::Log;
 use std::alloc::Global;
 use std::sync::{Arc, Wait};
 use std::test::Fail;
 
 /// A life of 26 days in nanoseconds, by a clock that began in 1970.
-const LIFE: u64 = (1 << 51) + 1;
+pub(crate) const LIFE: u64 = (1 << 51) + 1;
 
 /// The time of a call.
-const NOW: u64 = 418_000_000 << 32;
+pub(crate) const NOW: u64 = 418_000_000 << 32;
 
-/// A record weighs what its value says.
-#[derive(Clone, Copy, Debug, Default)]
-struct ByValue;
-
-impl Weighter<u32, u64> for ByValue {
-    ghost use Rattle.std.specs.Prelude.{◌≡◌};
-
-    ghost weighs = { λ _ _ value weight. weight ≡ value };
-
-    fn weigh(&self, _key: &u32, value: &u64) -> usize {
-        *value as usize
-    }
-}
-
-/// A cache of such records.
-type Weighed<H> = CacheOf<H, u32, u64, ModHasher, CacheProperties, ByValue, AdmitAll, Ear>;
-
-// A cache of one shard for three records with a pipe, whose handles have a limit, and what it tells.
-fn piped<H: Wait + Log + Alloc<A = Global> + Copy + Drop>(
+/// A cache of one shard for three records with a pipe, whose handles have a limit, and what it tells.
+pub(crate) fn piped<H: Wait + Log + Alloc<A = Global> + Copy + Drop>(
     rt: H,
     config: EvictionConfig,
     handles: usize,
@@ -261,6 +242,31 @@ fn a_put_answers_those_who_wait(rt: HostRuntime) -> Outcome {
     Ok(())
 }
 
+// While a fetch of another key is open, a put tells the same, and nobody waits for it.
+#[test]
+fn a_put_beside_a_fetch_tells_as_ever(rt: HostRuntime) -> Outcome {
+    for config in all_policies() {
+        let (cache, notes) = piped(rt, config, 1)?;
+        let mut tasks = ListSpawner::new(rt.alloc());
+        let look = cache.get_or_fetch(0, &7, || given(70), &mut tasks)?;
+        for key in 1..5u32 {
+            cache.put(0, key, 10)?;
+        }
+        assert!(rt; notes.are(&[Evict(1, 10), Piece(1, 10)]));
+        notes.forget();
+        let phantom = CacheProperties::default().with_phantom(true);
+        cache.put_with_properties(0, 4, 11, phantom)?;
+        assert!(rt; notes.are(&[Replace(4, 10), Remove(4, 11), Evict(4, 11), Piece(4, 11)]));
+        assert_eq!(rt;
+            (cache.get(0, &3)?.ok_or("none")?.refs(), cache.entries()),
+            (1, 2)
+        );
+        finish(&rt, tasks)?;
+        assert_eq!(rt; *at_once(&rt, look)??, 70);
+    }
+    Ok(())
+}
+
 // What is held of a deleted record can still be read.
 #[test]
 fn a_delete_says_whether_there_was_a_record(rt: HostRuntime) -> Outcome {
@@ -301,83 +307,6 @@ fn a_full_handle_count_refuses_all_but_a_peek(rt: HostRuntime) -> Outcome {
         assert_eq!(rt; (cache.stats().hits, cache.stats().removed), (0, 0));
         drop(held);
         assert!(rt; cache.read(0, &1, |value| *value)? == Some(10) && cache.delete(&1)?);
-    }
-    Ok(())
-}
-
-// Weights past 2^32 are counted, and evict.
-#[test]
-fn a_put_may_weigh_more_than_2_to_the_32(rt: HostRuntime) -> Outcome {
-    const WEIGHT: u64 = (1 << 40) + 1;
-    for config in all_policies() {
-        let notes = Notes::new(rt.alloc())?;
-        let cache: Weighed<HostRuntime> = CacheBuilder::new(3 * WEIGHT as usize)
-            .with_shards(1)
-            .with_eviction_config(config)
-            .with_hash_builder(ModHasher::default())
-            .with_weighter(ByValue)
-            .with_event_listener(Ear(notes.share()?))
-            .build(rt, rt.alloc(), &rt)?;
-        for key in 0..5u32 {
-            cache.put(0, key, WEIGHT)?;
-        }
-        assert!(rt; notes.are(&[Evict(0, WEIGHT), Evict(1, WEIGHT)]));
-        assert_eq!(rt; cache.usage(), 3 * u128::from(WEIGHT));
-        assert!(rt; cache.get_copied(0, &4)? == Some(WEIGHT) && cache.delete(&4)?);
-        assert_eq!(rt; cache.usage(), 2 * u128::from(WEIGHT));
-    }
-    Ok(())
-}
-
-// A made value lives as long as its properties say, or else as long as the cache says. A fault makes nothing.
-#[test]
-fn a_made_value_may_bring_its_expiry(rt: HostRuntime) -> Outcome {
-    for config in all_policies() {
-        let notes = Notes::new(rt.alloc())?;
-        let cache: Cache<HostRuntime, Direct<Fetch>> = builder(9, config, &notes)?
-            .with_time_to_live(10)
-            .build(rt, rt.alloc(), &rt)?;
-        for (key, life) in [(1, Some(LIFE)), (2, Some(5)), (3, None)] {
-            let expiry = life.map(|life| NOW + life);
-            let make = || Ok((
-                u64::from(key),
-                CacheProperties::default().with_expiry(expiry),
-            ));
-            let entry = cache.get_or_insert_with_properties(NOW, &key, make)?;
-            assert_eq!(rt; (*entry, entry.refs()), (u64::from(key), 1));
-            let last = expiry.unwrap_or(NOW + 10) - 1;
-            assert!(rt; cache.contains(last, &key) && !cache.contains(last + 1, &key));
-            let again = cache.get_or_insert_with_properties(
-                last,
-                &key,
-                || Ok((9, CacheProperties::default())),
-            );
-            assert_eq!(rt; *again?, u64::from(key));
-        }
-        let failed = cache.get_or_insert_with_properties(
-            NOW,
-            &4,
-            || Err(Fault::with_text(rt.alloc(), 404, "no such key")),
-        );
-        assert_eq!(rt;
-            (number(failed), cache.contains(NOW, &4)),
-            (Some(11), false)
-        );
-        assert_eq!(rt; (cache.stats().hits, cache.stats().misses), (3, 4));
-    }
-    Ok(())
-}
-
-// A phantom that a maker asks for is returned, and found by nobody.
-#[test]
-fn a_made_value_may_be_a_phantom(rt: HostRuntime) -> Outcome {
-    for config in all_policies() {
-        let (cache, notes) = piped(rt, config, 1)?;
-        let phantom = CacheProperties::default().with_phantom(true);
-        let entry = cache.get_or_insert_with_properties(0, &1, || Ok((10, phantom)))?;
-        assert!(rt; *entry == 10 && entry.is_outdated() && !cache.contains(0, &1));
-        drop(entry);
-        assert!(rt; notes.are(&[Remove(1, 10), Evict(1, 10), Piece(1, 10)]));
     }
     Ok(())
 }

@@ -14,6 +14,7 @@ mod departures;
 mod handles;
 mod hashes;
 mod heard;
+mod held;
 mod made;
 mod moments;
 mod records;
@@ -38,6 +39,7 @@ fn run<H: Runtime>(cases: &mut Cases<H>) -> Outcome {
     moments::run(cases)?;
     records::run(cases)?;
     handles::run(cases)?;
+    held::run(cases)?;
     departures::run(cases)?;
     shards::run(cases)?;
     sparse::run(cases)?;

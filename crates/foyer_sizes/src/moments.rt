@@ -88,8 +88,10 @@ fn evicts<H: Runtime>(rt: H, config: EvictionConfig, call: Call) -> Outcome {
         &heard.evens_first(),
         &(RECORDS / 2),
     )?;
+    same(rt, "expired", &cache.stats().expired, &(RECORDS / 2))?;
     let (cache, piece) = half_expiring(rt, config, &heard)?;
     call.make(rt, &cache, NOW - 1, piece)?;
+    same(rt, "expired before", &cache.stats().expired, &0)?;
     let evens = heard.evens_first();
     same(rt, "the policy's victims leave first", &(evens < 10), &true)
 }
