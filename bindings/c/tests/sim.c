@@ -116,7 +116,7 @@ static void print_yes(luffa_status status) {
         print_refusal(status);
 }
 
-static struct slot *slot_at(uint64_t key) { return slot_of(cache, key); }
+static struct slot *slot_at(uint64_t key) { return &cache->slots[key % cache->shards]; }
 
 /* The tokens of a key that were answered, each with what it got, into `answers`. */
 static void collect_answers(uint64_t key, const char *before) {
@@ -171,7 +171,8 @@ static void fetch_line(uint64_t key) {
     luffa_fetch fetch;
     luffa_entry entry;
     lock(slot);
-    luffa_status status = luffa_shard_fetch(&slot->shard, now, key, (const uint8_t *)&key, sizeof key, &record, &fetch);
+    luffa_status status = luffa_shard_fetch(&slot->shard, (luffa_at){now}, (luffa_hashed){key}, (const uint8_t *)&key,
+                                            sizeof key, &record, &fetch);
     if (status == LUFFA_OK)
         give(slot, &record, &entry);
     unlock(slot);
@@ -191,9 +192,10 @@ static void end_line(uint64_t key, uint64_t fetch, const uint64_t *value) {
     const luffa_terms terms = {.weight = 1};
     const uint8_t *bytes = (const uint8_t *)&key;
     lock(slot);
-    luffa_status status = value == NULL ? luffa_shard_cancel(&slot->shard, key, bytes, sizeof key, fetch)
-                                        : luffa_shard_complete(&slot->shard, now, key, bytes, sizeof key, fetch,
-                                                               (const uint8_t *)value, 8, &terms);
+    const luffa_hashed hash = {key};
+    luffa_status status = value == NULL ? luffa_shard_cancel(&slot->shard, hash, bytes, sizeof key, fetch)
+                                        : luffa_shard_complete(&slot->shard, (luffa_at){now}, hash, bytes, sizeof key,
+                                                               fetch, (const uint8_t *)value, 8, &terms);
     unlock_and_tell(slot);
     if (status == LUFFA_MISSING)
         printf("lost");

@@ -148,7 +148,14 @@ fn cheat(policy: &EvictionConfig, one_in: [u64; 3]) -> usize {
             let _owners = (cache, hands);
             assert!(broken % 2 == 0, "boom");
         });
-        assert!(rest > 0 || ended.is_ok() || broken % 2 == 1);
+        // A fetch that is open until then may be the first to meet a `==` that lies.
+        match ended {
+            Err(message) if rest == 0 && broken % 2 == 0 => {
+                assert!([UNREACHED, POISONED].contains(&message.as_str()), "{message}");
+                broken += 1;
+            }
+            _ => {}
+        }
         assert_eq!(live.load(SeqCst), 0, "keys leak or were dropped twice");
     }
     broken
