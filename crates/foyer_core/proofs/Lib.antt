@@ -73,6 +73,7 @@ pub mod PinLemmas
 pub mod Popped
 pub mod ProbeLemmas
 pub mod Pushing
+pub mod PutLemmas
 pub mod RefusalLemmas
 pub mod Removed
 pub mod Reserving

@@ -111,6 +111,14 @@ pub struct InsertedOnto<K, V, P, N> {
     pub answers: Answers<K, V, P, N>,
 }
 
+/// What an insert returns of which no entry is wanted, and that appends what leaves to a list.
+pub struct PutOnto<K, V, P, N> {
+    /// What left with the record's entry: the record, if it is phantom.
+    pub last: Option<Leave<K, V, P>>,
+    /// What the key's waiters get.
+    pub answers: Answers<K, V, P, N>,
+}
+
 impl<K, V, P, N> Answers<K, V, P, N> {
     // Nobody waited.
     #[inline(always)]
@@ -138,6 +146,16 @@ impl<K, V, P, N> Answers<K, V, P, N> {
         };
         (waiters, got)
     }
+}
+
+/// What a read gives that lends something to its look.
+pub enum Read<T, O> {
+    /// What the look made of the value.
+    Seen(T),
+    /// What was lent, since there is no such record.
+    Missing(O),
+    /// What was lent: the handle count would pass its limit (F9).
+    Full(O),
 }
 
 /// An entry that isn't the shard's.

@@ -27,6 +27,7 @@ mod handles;
 mod holds;
 mod insertion;
 mod keys;
+mod lending;
 mod phantoms;
 mod picking;
 mod pieces;

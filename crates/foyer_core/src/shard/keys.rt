@@ -1,11 +1,12 @@
 //! Calls on a key, beside `get`.
 
-ghost use Rattle.std.specs.Prelude.{◌≡◌, IfOk, IfSome, true};
+ghost use Rattle.std.specs.Prelude.{◌≡◌, IfOk, IfSome, option_copied, true};
 ghost use Rattle.std.specs.Fn.{FnOnceReturnsAt};
 
 use super::Shard;
 use crate::entry::{CoreEntry, Left};
 use crate::finder::Finder;
+use crate::outcome::Read;
 use foyer_policy::{Eviction, Key, Properties, Result, Value};
 
 impl<E: Eviction, K: Key, V: Value, P: Properties, N: Drop, R: Drop, I: Finder<K>> Shard<
@@ -18,7 +19,7 @@ impl<E: Eviction, K: Key, V: Value, P: Properties, N: Drop, R: Drop, I: Finder<K
     I,
 > {
     ghost use Rattle.foyer_core.specs.Shards.{state_of, meaning_of, opens_of};
-    ghost use Rattle.foyer_core.specs.NoEntry.{Deletes, Peeks, Reads, SeesLive};
+    ghost use Rattle.foyer_core.specs.NoEntry.{Deletes, Peeks, Reads, ReadsWith, ReturnsLent, SeesLive};
     ghost use Rattle.foyer_core.specs.Steps.{Removes, Touches};
 
     /// Counts a use of the record that the key hits at `now`, and returns what `look` makes of its value.
@@ -42,6 +43,32 @@ impl<E: Eviction, K: Key, V: Value, P: Properties, N: Drop, R: Drop, I: Finder<K
         ensures opens { opens_of self.new ≡ opens_of self.old }
     {
         self.store.read(now, hash, key, look)
+    }
+
+    /// Reads as `read` does, and lends `look` something, such as a buffer, which comes back if there is nothing to read.
+    #[inline(always)]
+    pub fn read_with<O, T, F: FnOnce(&V, O) -> T>(
+        &mut self,
+        now: u64,
+        hash: u64,
+        key: &K,
+        lent: O,
+        look: F,
+    ) -> Read<T, O>
+        requires callable { F.IsAlwaysCallable look }
+        ensures reads { ReadsWith (meaning_of self.old) now (state_of self.old) (hash, key.now) lent
+            (ReturnsLent F.FnOnce look lent) result (state_of self.new) }
+        ensures opens { opens_of self.new ≡ opens_of self.old }
+    {
+        self.store.read_with(now, hash, key, lent, look)
+    }
+
+    /// Returns the value that the key hits at `now`. It counts no use, and takes no memory.
+    #[inline(always)]
+    pub fn value(&self, now: u64, hash: u64, key: &K) -> Option<&V>
+        ensures { Peeks (meaning_of self.now) now (state_of self.now) (hash, key.now) (λ v seen. seen ≡ v) (option_copied result) }
+    {
+        self.store.value(now, hash, key)
     }
 
     /// Returns what `look` makes of the value that the key hits at `now`. It counts no use, and takes no memory.

@@ -34,6 +34,13 @@ impl<E: Eviction, K: Key, V: Value, P: Properties, N: Drop, R: Drop, I: Finder<K
         self.store.pieces(alloc)
     }
 
+    /// Returns whether the piece's record is in the index. Takes no memory.
+    pub fn has_piece(&self, piece: &Piece<K, V, P>) -> bool
+        ensures { result ≡ is_resident (state_of self.now) piece.now }
+    {
+        self.store.has_piece(piece)
+    }
+
     /// Takes the piece's record out of the index, if it is still there, and returns it: a `Remove` for the caller to
     /// tell. It takes no memory, and makes no handle.
     ///

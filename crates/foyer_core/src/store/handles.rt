@@ -61,7 +61,7 @@ impl<E: Eviction, K: Key, V: Value, P: Properties, I: Finder<K>> Store<E, K, V, 
 
     // Takes a handle of an id back, whose record may be in the hinted slot, and returns what left with it.
     #[inline(always)]
-    pub(super) fn take_back_at(
+    pub(crate) fn take_back_at(
         &mut self,
         id: u64,
         hint: usize,

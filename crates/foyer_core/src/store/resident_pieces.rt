@@ -48,6 +48,19 @@ impl<E: Eviction, K: Key, V: Value, P: Properties, I: Finder<K>> Store<E, K, V, 
         Ok(Piece::of_share(self.number, id, slot, share))
     }
 
+    /// Returns whether the record of a piece is in the index. Takes no memory.
+    pub fn has_piece(&self, piece: &Piece<K, V, P>) -> bool
+        ensures { result ≡ is_resident (state_of self.now) piece.now }
+    {
+        if piece.number() != self.number {
+            return false;
+        }
+        match self.held(piece.id(), piece.slot()) {
+            Some(found) => found.is_resident(),
+            None => false,
+        }
+    }
+
     /// Takes the record of a piece out, if it is in the index, and returns what left. It takes no memory.
     pub fn remove_piece(&mut self, piece: &Piece<K, V, P>) -> Option<Left<K, V, P>>
         ensures resident { is_some result ≡ is_resident (state_of self.old) piece.now }

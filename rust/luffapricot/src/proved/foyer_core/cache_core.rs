@@ -29,6 +29,7 @@ mod in_turn;
 mod load;
 mod onto;
 mod pieces;
+mod resident_pieces;
 mod shards;
 
 pub use shards::{shard_capacity, shard_of};

@@ -8,7 +8,7 @@ use super::load::Load;
 use crate::proved::foyer_core::entry::Leave;
 use crate::proved::foyer_core::filter::Filter;
 use crate::proved::foyer_core::finder::Finder;
-use crate::proved::foyer_core::outcome::InsertedOnto;
+use crate::proved::foyer_core::outcome::{InsertedOnto, PutOnto};
 use crate::proved::foyer_core::weighter::Weighter;
 use crate::proved::foyer_policy::{Eviction, HashBuilder, Key, Properties, Result, Source, Value};
 
@@ -44,5 +44,29 @@ impl<
         let after = Load::of(&self.shards[place]);
         self.load.replace(before, after);
         emplaced
+    }
+
+    /// Inserts a record as `insert_with_properties_onto` does, of which no entry is wanted: as one step, that entry is
+    /// given back. None is made if no fetch is open in the record's shard.
+    ///
+    /// # Errors
+    /// Those of `insert_with_properties`.
+    #[inline(always)]
+    pub fn put_onto(
+        &mut self,
+        now: u64,
+        key: K,
+        value: V,
+        properties: P,
+        leaves: &mut Vec<Leave<K, V, P>>,
+    ) -> Result<PutOnto<K, V, P, N>> {
+        let hash = self.hash(&key);
+        let kept = self.rules.data(hash, key, value, properties);
+        let place = self.shard_index(hash);
+        let before = Load::of(&self.shards[place]);
+        let put = self.shards[place].put_onto(self.alloc, now, kept, leaves);
+        let after = Load::of(&self.shards[place]);
+        self.load.replace(before, after);
+        put
     }
 }

@@ -6,6 +6,7 @@ use crate::rattle_std::prelude::*;
 use super::Shard;
 use crate::proved::foyer_core::entry::{CoreEntry, Left};
 use crate::proved::foyer_core::finder::Finder;
+use crate::proved::foyer_core::outcome::Read;
 use crate::proved::foyer_policy::{Eviction, Key, Properties, Result, Value};
 
 impl<E: Eviction, K: Key, V: Value, P: Properties, N, R, I: Finder<K>> Shard<E, K, V, P, N, R, I> {
@@ -24,6 +25,25 @@ impl<E: Eviction, K: Key, V: Value, P: Properties, N, R, I: Finder<K>> Shard<E, 
         look: F,
     ) -> Result<Option<T>> {
         self.store.read(now, hash, key, look)
+    }
+
+    /// Reads as `read` does, and lends `look` something, such as a buffer, which comes back if there is nothing to read.
+    #[inline(always)]
+    pub fn read_with<O, T, F: FnOnce(&V, O) -> T>(
+        &mut self,
+        now: u64,
+        hash: u64,
+        key: &K,
+        lent: O,
+        look: F,
+    ) -> Read<T, O> {
+        self.store.read_with(now, hash, key, lent, look)
+    }
+
+    /// Returns the value that the key hits at `now`. It counts no use, and takes no memory.
+    #[inline(always)]
+    pub fn value(&self, now: u64, hash: u64, key: &K) -> Option<&V> {
+        self.store.value(now, hash, key)
     }
 
     /// Returns what `look` makes of the value that the key hits at `now`. It counts no use, and takes no memory.

@@ -20,6 +20,12 @@ impl<E: Eviction, K: Key, V: Value, P: Properties, N, R, I: Finder<K>> Shard<E, 
         self.store.pieces(alloc)
     }
 
+    /// Returns whether the piece's record is in the index. Takes no memory.
+    #[inline]
+    pub fn has_piece(&self, piece: &Piece<K, V, P>) -> bool {
+        self.store.has_piece(piece)
+    }
+
     /// Takes the piece's record out of the index, if it is still there, and returns it: a `Remove` for the caller to
     /// tell. It takes no memory, and makes no handle.
     ///

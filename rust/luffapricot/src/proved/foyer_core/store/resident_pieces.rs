@@ -38,6 +38,18 @@ impl<E: Eviction, K: Key, V: Value, P: Properties, I: Finder<K>> Store<E, K, V, 
         Ok(Piece::of_share(self.number, id, slot, share))
     }
 
+    /// Returns whether the record of a piece is in the index. Takes no memory.
+    #[inline]
+    pub fn has_piece(&self, piece: &Piece<K, V, P>) -> bool {
+        if piece.number() != self.number {
+            return false;
+        }
+        match self.held(piece.id(), piece.slot()) {
+            Some(found) => found.is_resident(),
+            None => false,
+        }
+    }
+
     /// Takes the record of a piece out, if it is in the index, and returns what left. It takes no memory.
     #[inline]
     pub fn remove_piece(&mut self, piece: &Piece<K, V, P>) -> Option<Left<K, V, P>> {
