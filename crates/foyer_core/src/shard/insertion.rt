@@ -222,9 +222,12 @@ impl<E: Eviction, K: Key, V: Value, P: Properties, N: Drop, R: Drop, I: Finder<K
         }
     }
 
-    // Inserts a record with this share of its data as `put_onto` does.
+    /// Inserts a record with this share of its data as `put_onto` does.
+    ///
+    /// # Errors
+    /// Those of `emplace`.
     #[inline(always)]
-    fn put_share(
+    pub fn put_share(
         &mut self,
         alloc: Global,
         now: u64,

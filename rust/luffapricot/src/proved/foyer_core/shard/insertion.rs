@@ -138,9 +138,12 @@ impl<E: Eviction, K: Key, V: Value, P: Properties, N, R, I: Finder<K>> Shard<E, 
         }
     }
 
-    // Inserts a record with this share of its data as `put_onto` does.
+    /// Inserts a record with this share of its data as `put_onto` does.
+    ///
+    /// # Errors
+    /// Those of `emplace`.
     #[inline(always)]
-    fn put_share(
+    pub fn put_share(
         &mut self,
         alloc: Global,
         now: u64,
