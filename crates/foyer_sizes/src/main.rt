@@ -1,5 +1,5 @@
 //! `foyer-sizes` puts caches through sizes that users have and that would be slow in a checked test: weights beyond 2^32,
-//! 200,000 records in a shard, thousands of handles of one record and of records that leave by one call, more than a
+//! 300,000 records in a shard, thousands of handles of one record and of records that leave by one call, more than a
 //! hundred shards, and threads that sleep until a fetch ends. It prints a line for each case, and says on standard error
 //! what differs. It is a program for tests.
 //!

@@ -7,12 +7,12 @@ use crate::moments::NOW;
 use foyer_core::CacheProperties;
 use foyer_memory::EvictionConfig;
 
-const RECORDS: u64 = 200_000;
+const RECORDS: u64 = 300_000;
 
 pub fn run<H: Runtime>(cases: &mut Cases<H>) -> Outcome {
     let rt = cases.rt;
     cases.of_each_policy(
-        "a shard holds 200,000 records",
+        "a shard holds 300,000 records",
         |config| holds_all(rt, config),
     )
 }
@@ -35,7 +35,7 @@ fn holds_all<H: Runtime>(rt: H, config: EvictionConfig) -> Outcome {
     same(rt, "found before", &got, &RECORDS)?;
     let half_way = NOW + RECORDS / 2;
     let found = (0..RECORDS).filter(|key| cache.contains(half_way, key));
-    same(rt, "found half way", &found.count(), &149_999)?;
+    same(rt, "found half way", &found.count(), &224_999)?;
     same(rt, "told", &heard.take(), &Told::default())?;
     cache.evict_all(half_way)?;
     same(rt, "told of all", &heard.take(), &Told::evicted(RECORDS))?;
