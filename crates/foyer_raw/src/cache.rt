@@ -1,8 +1,10 @@
 //! The cache that threads share.
 
-ghost use Rattle.std.specs.Prelude.{◌≡◌, None, Err, IfErr, IfOk, IfSome, OnOk};
+ghost use Rattle.std.specs.Prelude.{◌≡◌, None, Err, IfErr, IfOk, IfSome, OnOk, vec_len};
+ghost use Rattle.std.specs.Arc.{arc_value};
 ghost use Rattle.foyer_policy.specs.declared.error.Reason.TheVariants.{NoMemory};
 
+use crate::counted::Capacity;
 use crate::fetch::{FetchTypes, NoFetch};
 use crate::listener::NoListener;
 use crate::pipe::{NoopPipe, Pipe};
@@ -27,7 +29,6 @@ mod bulk;
 mod fetching;
 mod insertion;
 mod keys;
-mod walks;
 
 /// An in-memory cache that threads share, with its eviction policy as a type parameter.
 ///
@@ -114,7 +115,7 @@ where
             I,
         >::new_shards(alloc, &config)?;
         let shared = Shared {
-            shards: Shards::new(rt, alloc, made, config.capacity)?,
+            shards: Shards::new(rt, alloc, made, Capacity::new(config.capacity))?,
             hash_builder: Arc::new(alloc, config.hash_builder)?,
             rules: Rules {
                 weighter: config.weighter,
@@ -163,7 +164,8 @@ where
     /// # Errors
     /// F7 if a reference count is full.
     pub fn try_clone(&self) -> Result<Self>
-        ensures { IfOk result (λ again. again.time_to_live ≡ self.now.time_to_live) }
+        ensures lives { IfOk result (λ again. again.time_to_live ≡ self.now.time_to_live) }
+        ensures shared { IfOk result (λ again. arc_value again.shares.shared ≡ arc_value self.now.shares.shared) }
     {
         Ok(RawCache {
             shares: self.shares.try_clone()?,
@@ -176,7 +178,8 @@ where
     ///
     /// Those made before keep the pipe that they had.
     pub fn with_pipe(self, pipe: Arc<Q>) -> Self
-        ensures { result.time_to_live ≡ self.time_to_live }
+        ensures lives { result.time_to_live ≡ self.time_to_live }
+        ensures shared { result.shares.shared ≡ self.shares.shared }
     {
         let RawCache {
             shares,
@@ -196,11 +199,13 @@ where
 
     /// Returns the capacity, a total weight, as the last `resize` or else the configuration set it.
     pub fn capacity(&self) -> usize {
-        self.shares.shared.shards.capacity()
+        self.shares.shared.shards.capacity().weight()
     }
 
     /// Returns the number of shards.
-    pub fn shards(&self) -> usize {
+    pub fn shards(&self) -> usize
+        ensures { result ≡ vec_len (arc_value (arc_value self.now.shares.shared).shared).shards.all }
+    {
         self.shares.shared.shards.len()
     }
 
@@ -231,7 +236,9 @@ where
     }
 
     /// Returns the hash builder of the keys.
-    pub fn hash_builder(&self) -> &Arc<S> {
+    pub fn hash_builder(&self) -> &Arc<S>
+        ensures { result.now ≡ (arc_value (arc_value self.now.shares.shared).shared).hash_builder }
+    {
         &self.shares.shared.hash_builder
     }
 

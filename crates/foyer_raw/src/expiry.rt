@@ -2,11 +2,12 @@
 
 ghost use Rattle.std.specs.Prelude.{◌≡◌, IsSome, None};
 
+use crate::counted::At;
 use foyer_policy::Properties;
 
 /// These properties, with an expiry at `now + time_to_live` (at most 2^64 - 1) if they have none of their own.
 #[inline(always)]
-pub(crate) fn expiring<P: Properties>(properties: P, now: u64, time_to_live: Option<u64>) -> P
+pub(crate) fn expiring<P: Properties>(properties: P, now: At, time_to_live: Option<u64>) -> P
     ensures plain { time_to_live ≡ None → result ≡ properties }
     ensures own { IsSome (P.expiry_of properties) → result ≡ properties }
 {
@@ -16,5 +17,5 @@ pub(crate) fn expiring<P: Properties>(properties: P, now: u64, time_to_live: Opt
     if properties.expiry().is_some() {
         return properties;
     }
-    properties.with_expiry(Some(now.saturating_add(time_to_live)))
+    properties.with_expiry(Some(now.expiry(time_to_live)))
 }

@@ -1,21 +1,26 @@
 //! What left with a call.
 
+ghost use Rattle.std.specs.Prelude.{◌≡◌, []};
+ghost use Rattle.foyer_raw.specs.Told.{IsUntold, told_of};
+
 use foyer_core::Leave;
 use std::alloc::Global;
 use std::mem::replace;
 
-/// Leaves, in order. One or two stand in place, and take no memory.
+/// What left with a call, in order. Up to two records take no memory.
 #[derive(Drop)]
-pub(crate) struct Leaves<K: Drop, V: Drop, P: Drop> {
+pub struct Leaves<K: Drop, V: Drop, P: Drop> {
     pub(crate) first: Option<Leave<K, V, P>>,
     pub(crate) second: Option<Leave<K, V, P>>,
     pub(crate) more: Vec<Leave<K, V, P>>,
 }
 
 impl<K: Drop, V: Drop, P: Drop> Leaves<K, V, P> {
-    // None.
+    /// Nothing.
     #[inline(always)]
-    pub(crate) fn new(alloc: Global) -> Self {
+    pub fn new(alloc: Global) -> Self
+        ensures { IsUntold result }
+    {
         Leaves {
             first: None,
             second: None,
@@ -23,9 +28,13 @@ impl<K: Drop, V: Drop, P: Drop> Leaves<K, V, P> {
         }
     }
 
-    // Takes all from a list, which keeps its room where at most two are in it. There were none here before.
+    // Takes all from a list, which keeps its room if at most two are in it.
     #[inline(always)]
-    pub(crate) fn take(&mut self, all: &mut Vec<Leave<K, V, P>>) {
+    pub(crate) fn take(&mut self, all: &mut Vec<Leave<K, V, P>>)
+        requires { IsUntold self.old }
+        ensures told { told_of self.new ≡ all.old.items }
+        ensures taken { all.new.items ≡ [] }
+    {
         match all.len() {
             0 => {}
             1 => self.first = all.pop(),
@@ -35,7 +44,11 @@ impl<K: Drop, V: Drop, P: Drop> Leaves<K, V, P> {
 
     #[cold]
     #[inline(never)]
-    fn take_many(&mut self, all: &mut Vec<Leave<K, V, P>>) {
+    fn take_many(&mut self, all: &mut Vec<Leave<K, V, P>>)
+        requires { IsUntold self.old }
+        ensures told { told_of self.new ≡ all.old.items }
+        ensures taken { all.new.items ≡ [] }
+    {
         if all.len() == 2 {
             self.second = all.pop();
             self.first = all.pop();

@@ -3,11 +3,12 @@
 #![tactic(auto)]
 
 pub mod cache;
+pub mod counted;
 pub mod entry;
 mod expiry;
 pub mod fetch;
 pub mod flush;
-mod leaves;
+pub mod leaves;
 pub mod listener;
 pub mod pipe;
 pub mod runtime;
@@ -18,6 +19,7 @@ mod stripes;
 pub mod ticket;
 
 pub use cache::RawCache;
+pub use counted::{At, Capacity, CountedShard, Hashed};
 pub use entry::RawCacheEntry;
 pub use fetch::{
     AllTasks, Direct, FetchTypes, Given, ListSpawner, NoFetch, OptionalFetch, OptionalFetchBuilder,

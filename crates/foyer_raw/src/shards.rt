@@ -3,29 +3,15 @@
 ghost use Rattle.std.specs.Prelude.{◌≡◌, ◌<◌, IfErr, IfOk, vec_len};
 ghost use Rattle.foyer_policy.specs.declared.error.Reason.TheVariants.{NoMemory};
 
-use crate::ticket::{Answer, Notifier};
-use foyer_core::{Finder, Shard, shard_of};
+use crate::counted::{Capacity, CountedShard, Hashed, RawShard};
+use foyer_core::{Finder, shard_of};
 use foyer_policy::{Event, EventListener, Eviction, Key, Properties, Result, Value};
 use std::alloc::Global;
 use std::hint::spin_loop;
 use std::sync::{Mutex, MutexGuard, Wait};
 
 mod bulk;
-mod counting;
-mod fetches;
-mod keys;
-mod walk;
-
-pub(crate) use counting::Counting;
-pub(crate) use fetches::{Later, RawEnded};
-pub(crate) use keys::{RawInserted, RawPut};
-
-/// A shard of a cache whose waiters hold senders, and whose later builders are of this type.
-pub(crate) type RawShard<E, K, V, P, R, I> = Shard<E, K, V, P, Notifier<Answer<K, V, P>>, R, I>;
-
-/// The first moment. A question that knows no moment is asked at it: what has not expired from the start is not expired
-/// then.
-pub(crate) const FIRST: u64 = 0;
+mod calls;
 
 // How often a thread looks whether a lock is free, before it sleeps.
 const LOOKS: u32 = 100;
@@ -43,9 +29,9 @@ where
     I: Finder<K>,
 {
     pub(crate) rt: H,
-    all: Vec<Mutex<Counting<E, K, V, P, R, I>>>,
+    all: Vec<Mutex<CountedShard<E, K, V, P, R, I>>>,
     // The capacity, under the lock that orders changes of all shards.
-    capacity: Mutex<usize>,
+    capacity: Mutex<Capacity>,
     pub(crate) alloc: Global,
     ghost some: { 0 < vec_len all },
 }
@@ -65,7 +51,7 @@ where
         rt: H,
         alloc: Global,
         made: Vec<RawShard<E, K, V, P, R, I>>,
-        capacity: usize,
+        capacity: Capacity,
     ) -> Result<Self>
         requires { 0 < vec_len made }
         ensures { IfErr result (λ e. e ≡ NoMemory) }
@@ -79,7 +65,9 @@ where
     }
 
     // How many there are.
-    pub(crate) fn len(&self) -> usize {
+    pub(crate) fn len(&self) -> usize
+        ensures { result ≡ vec_len self.now.all }
+    {
         self.all.len()
     }
 
@@ -114,7 +102,7 @@ where
 
     // The shard of a hash, locked. A lock that is free is had without waiting.
     #[inline(always)]
-    pub(crate) fn lock(&self, hash: u64) -> MutexGuard<'_, Counting<E, K, V, P, R, I>> {
+    pub(crate) fn lock(&self, hash: u64) -> MutexGuard<'_, CountedShard<E, K, V, P, R, I>> {
         let place = self.index_of(hash);
         match self.all[place].try_lock() {
             Some(shard) => shard,
@@ -122,11 +110,17 @@ where
         }
     }
 
+    // The shard of a key, locked.
+    #[inline(always)]
+    fn of(&self, key: &Hashed<'_, K>) -> MutexGuard<'_, CountedShard<E, K, V, P, R, I>> {
+        self.lock(key.hash())
+    }
+
     // A shard whose lock was held, locked. A step of a shard is short, and mostly ends before a thread would be asleep: so
     // the thread looks for a while first.
     #[cold]
     #[inline(never)]
-    fn wait_for(&self, place: usize) -> MutexGuard<'_, Counting<E, K, V, P, R, I>>
+    fn wait_for(&self, place: usize) -> MutexGuard<'_, CountedShard<E, K, V, P, R, I>>
         requires { place < vec_len self.now.all }
     {
         let shard = &self.all[place];
@@ -144,13 +138,13 @@ where
 fn locked<E: Eviction, K: Key, V: Value, P: Properties, R: Drop, I: Finder<K>>(
     alloc: Global,
     made: Vec<RawShard<E, K, V, P, R, I>>,
-) -> Result<Vec<Mutex<Counting<E, K, V, P, R, I>>>>
+) -> Result<Vec<Mutex<CountedShard<E, K, V, P, R, I>>>>
     ensures len { IfOk result (λ all. vec_len all ≡ vec_len made) }
     ensures memory { IfErr result (λ e. e ≡ NoMemory) }
 {
     let mut all = Vec::new(alloc);
     for shard in made {
-        all.push(Mutex::new(Counting::new(alloc, shard)))?;
+        all.push(Mutex::new(CountedShard::new(alloc, shard)))?;
     }
     Ok(all)
 }

@@ -1,8 +1,11 @@
 //! What the clones, the entries and the tasks of a cache share.
 
 ghost use Rattle.std.specs.Prelude.{◌≡◌, true};
+ghost use Rattle.foyer_core.specs.Rules.{Judges};
+ghost use Rattle.foyer_core.specs.State.{coming_in};
 
-use crate::shards::{RawEnded, Shards};
+use crate::counted::{At, Hashed, RawEnded};
+use crate::shards::Shards;
 use foyer_core::{Data, Filter, Finder, Piece, Rules, Weighter};
 use foyer_policy::{EventListener, Eviction, HashBuilder, Key, Properties, Value};
 use std::sync::{Arc, Wait};
@@ -71,8 +74,11 @@ where
 {
     // Makes a record to insert, of a key with this hash. Asks the weighter, then the filter, with no lock held.
     pub(crate) fn data(&self, hash: u64, key: K, value: V, properties: P) -> Data<K, V, P>
+        ensures judged { Judges (W.weighs self.now.rules.weighter key value) (A.admits self.now.rules.filter key value)
+            (λ admitted. coming_in P.location_of P.with_phantom_of admitted properties) result.weight result.properties }
         ensures key { result.key ≡ key }
         ensures value { result.value ≡ value }
+        ensures hash { result.hash ≡ hash }
     {
         self.rules.data(hash, key, value, properties)
     }
@@ -80,8 +86,7 @@ where
     // Returns the weight of a piece whose key has this hash, by the weighter. If its shard knows the piece, which then
     // holds for ever, the weighter isn't asked, and this is 0.
     pub(crate) fn weight_of(&self, hash: u64, piece: &Piece<K, V, P>) -> usize {
-        let is_known = self.shards.lock(hash).shard.knows(hash, piece);
-        if is_known {
+        if self.shards.knows(hash, piece) {
             return 0;
         }
         self.rules.weighter.weigh(piece.key(), piece.value())
@@ -91,34 +96,20 @@ where
     // has another key or lives in another shard. Asks the weighter of a piece that this cache doesn't know.
     pub(crate) fn complete_piece(
         &self,
-        now: u64,
-        hash: u64,
-        key: &K,
+        now: At,
+        key: Hashed<'_, K>,
         fetch: u64,
         piece: Piece<K, V, P>,
     ) -> RawEnded<K, V, P>
         requires clones { (k c : K) → K.is_clone k c → K.eq c k ≡ true }
     {
         let own = self.hash_builder.hash_one(piece.key());
-        let weight = if own == hash && *key == *piece.key() {
+        let weight = if own == key.hash() && *key.key() == *piece.key() {
             self.weight_of(own, &piece)
         } else {
             0
         };
-        let is_home = self.shards.index_of(own) == self.shards.index_of(hash);
-        let mut locked = self.shards.lock(hash);
-        let ended = locked.shard.complete_piece(
-            self.shards.alloc,
-            now,
-            hash,
-            key,
-            fetch,
-            piece,
-            own,
-            is_home,
-            weight,
-        );
-        locked.count_ended(now, &ended);
-        ended
+        self.shards
+            .complete_piece(now, key, fetch, piece, own, weight)
     }
 }

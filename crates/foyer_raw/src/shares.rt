@@ -1,13 +1,14 @@
 //! A share of a cache, with the pipe that goes with it.
 
-ghost use Rattle.std.specs.Prelude.{◌≡◌, IfSome};
+ghost use Rattle.std.specs.Prelude.{◌≡◌, IfOk, IfSome};
+ghost use Rattle.std.specs.Arc.{arc_value};
 
+use crate::counted::RawEnded;
 use crate::entry::RawCacheEntry;
 use crate::flush::Flush;
 use crate::leaves::Leaves;
 use crate::listener::tell;
 use crate::pipe::Pipe;
-use crate::shards::RawEnded;
 use crate::stripes::Stripe;
 use crate::ticket::{Answer, Notifier, Ticket, Waiters, refuse};
 use foyer_core::{Answers, CoreEntry, Ended, Finder, Leave, Left, Piece};
@@ -55,7 +56,9 @@ where
     R: Drop,
 {
     // The same shares again.
-    pub(crate) fn try_clone(&self) -> Result<Self> {
+    pub(crate) fn try_clone(&self) -> Result<Self>
+        ensures { IfOk result (λ again. arc_value again.shared ≡ arc_value self.now.shared) }
+    {
         let pipe = self.pipe_again()?;
         let shared = Arc::try_clone(&self.shared)?;
         Ok(Shares { shared, pipe })

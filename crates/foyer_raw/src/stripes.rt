@@ -50,9 +50,10 @@ where
 {
     type Target = Shared<H, E, K, V, S, P, W, A, L, R, I>;
 
-    ghost use Rattle.std.specs.Prelude.{⊤};
+    ghost use Rattle.std.specs.Prelude.{◌≡◌};
+    ghost use Rattle.std.specs.Arc.{arc_value};
 
-    ghost deref_gives = { λ _ _. ⊤ };
+    ghost deref_gives = { λ stripe shared. shared ≡ arc_value stripe.shared };
 
     #[inline(always)]
     fn deref(&self) -> &Shared<H, E, K, V, S, P, W, A, L, R, I> {

@@ -4,6 +4,7 @@ ghost use Rattle.std.specs.Prelude.{◌≡◌, true};
 
 use super::RawCache;
 use super::fetching::Asking;
+use crate::counted::At;
 use crate::entry::RawCacheEntry;
 use crate::fetch::{AllTasks, Direct, FetchTypes, Given, ListSpawner, RawWait, RequiredFetch};
 use crate::pipe::Pipe;
@@ -76,20 +77,21 @@ where
         requires clones { (k c : K) → K.is_clone k c → K.eq c k ≡ true }
         requires callable { F.IsAlwaysCallable make }
     {
-        let hash = self.hash(key);
-        if let Some(entry) = self.get_first(now, hash, key)? {
+        let now = At::new(now);
+        let key = self.hashed(key);
+        if let Some(entry) = self.get_first(now, key.again())? {
             return Ok(entry);
         }
         let Asking {
             shares,
             task,
-            hash: _,
             own,
             notifier,
             waiter,
-        } = self.asking(hash, key)?;
+        } = self.asking(&key)?;
         let shards = &self.shares.shared.shards;
-        match shards.get_or_enqueue(now, hash, key, None, notifier)? {
+        let hash = key.hash();
+        match shards.get_or_enqueue(now, key, None, notifier)? {
             Lookup::Hit(core) => return Ok(shares.entry(core)),
             Lookup::Wait { token: _ } => {}
             Lookup::Lead {

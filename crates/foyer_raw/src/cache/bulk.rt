@@ -5,11 +5,12 @@ ghost use Rattle.foyer_policy.specs.Limit.{ok_unless};
 ghost use Rattle.foyer_policy.specs.declared.error.Reason.TheVariants.{WrongPolicy};
 
 use super::RawCache;
+use crate::counted::{At, Capacity};
 use crate::fetch::FetchTypes;
 use crate::flush::{Flush, FlushIf};
 use crate::pipe::Pipe;
 use foyer_core::Finder;
-use foyer_policy::{Error, EventListener, Eviction, Key, Properties, Reason, Result, Value};
+use foyer_policy::{Error, Event, EventListener, Eviction, Key, Properties, Reason, Result, Value};
 use std::sync::Wait;
 
 impl<H, E, K, V, S, P, W, A, L, Q, T, I> RawCache<H, E, K, V, S, P, W, A, L, Q, T, I>
@@ -46,7 +47,7 @@ where
     pub fn evict_all(&self, now: u64) -> Result<()> {
         let shards = &self.shares.shared.shards;
         let mut leaves = Vec::new(shards.alloc);
-        let done = shards.evict_all(now, &mut leaves);
+        let done = shards.evict_all(At::new(now), &mut leaves);
         self.shares.tell_all(leaves);
         done
     }
@@ -60,7 +61,7 @@ where
     pub fn resize(&self, now: u64, capacity: usize) -> Result<()> {
         let shards = &self.shares.shared.shards;
         let mut leaves = Vec::new(shards.alloc);
-        let done = shards.resize(now, capacity, &mut leaves);
+        let done = shards.resize(At::new(now), Capacity::new(capacity), &mut leaves);
         self.shares.tell_all(leaves);
         done
     }
@@ -105,7 +106,7 @@ where
         let shards = &self.shares.shared.shards;
         let mut leaves = Vec::new(shards.alloc);
         let mut pieces = Vec::new(shards.alloc);
-        let done = shards.flush(now, &mut leaves, &mut pieces);
+        let done = shards.flush(At::new(now), &mut leaves, &mut pieces);
         self.shares.flush(leaves, pieces, done)
     }
 
@@ -124,5 +125,63 @@ where
         let mut pieces = Vec::new(shards.alloc);
         let done = shards.flush_if(&predicate, &mut leaves, &mut pieces);
         self.shares.flush(leaves, pieces, done)
+    }
+
+    /// Calls a closure with each record, expired or not: shard by shard, in the policy's order. The records of a shard are
+    /// those that it had at one moment. No lock is held during a call, so the closure may use the cache. It counts as no use.
+    ///
+    /// # Errors
+    /// F7 if memory runs out; the shards before have been visited.
+    pub fn for_each<F: FnMut(&K, &V)>(&self, mut visit: F) -> Result<()>
+        requires { F.IsAlwaysCallable visit }
+    {
+        let shards = &self.shares.shared.shards;
+        for place in 0..shards.len() {
+            let pieces = shards.pieces(place)?;
+            for piece in &pieces {
+                visit(piece.key(), piece.value());
+            }
+        }
+        Ok(())
+    }
+
+    /// Returns a clone of each record's key, expired or not, in the order of `for_each`.
+    ///
+    /// # Errors
+    /// F7 if memory runs out.
+    pub fn keys(&self) -> Result<Vec<K>> {
+        let shards = &self.shares.shared.shards;
+        let mut keys = Vec::new(shards.alloc);
+        for place in 0..shards.len() {
+            let pieces = shards.pieces(place)?;
+            keys.reserve(pieces.len())?;
+            for piece in &pieces {
+                keys.push(piece.key().clone()?)?;
+            }
+        }
+        Ok(keys)
+    }
+
+    /// Removes each record for which a closure returns false, and tells the listener (`Remove`). The closure sees each record,
+    /// expired or not, in the order of `for_each`, and may use the cache. A record that was replaced meanwhile stays.
+    ///
+    /// # Errors
+    /// F7 if memory runs out; the shards before are done.
+    pub fn retain<F: FnMut(&K, &V) -> bool>(&self, mut keep: F) -> Result<()>
+        requires { F.IsAlwaysCallable keep }
+    {
+        let shards = &self.shares.shared.shards;
+        for place in 0..shards.len() {
+            let pieces = shards.pieces(place)?;
+            for piece in &pieces {
+                if keep(piece.key(), piece.value()) {
+                    continue;
+                }
+                if let Some(left) = shards.remove_piece(piece) {
+                    self.shares.tell((Event::Remove, left));
+                }
+            }
+        }
+        Ok(())
     }
 }

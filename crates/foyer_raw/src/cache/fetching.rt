@@ -4,6 +4,7 @@ ghost use Rattle.std.specs.Prelude.{◌≡◌, ◌<◌, IfOk, IfSome, IsSome, fa
 ghost use Rattle.foyer_policy.specs.Moments.{is_expired};
 
 use super::RawCache;
+use crate::counted::{At, Hashed};
 use crate::fetch::{
     Begin, Direct, FetchTypes, Given, NoFetch, Pollable, RawFetch, RawGetOrFetch, RawWait,
     RequiredFetch, Spawner,
@@ -16,13 +17,12 @@ use foyer_policy::{EventListener, Eviction, HashBuilder, Key, Properties, Result
 use futures::channel::oneshot;
 use std::sync::Wait;
 
-/// What a look-up needs that may have to wait: shares of the cache for an entry or a wait and for a task, the key's
-/// hash and a clone of it, and both ends of a channel.
+/// What a look-up needs that may have to wait: shares of the cache for an entry or a wait and for a task, a clone of the
+/// key, and both ends of a channel.
 #[derive(Drop)]
 pub(super) struct Asking<C, K: Drop, V: Drop, P: Drop> {
     pub(super) shares: C,
     pub(super) task: C,
-    pub(super) hash: u64,
     pub(super) own: K,
     pub(super) notifier: Notifier<Answer<K, V, P>>,
     pub(super) waiter: Waiter<Answer<K, V, P>>,
@@ -75,27 +75,26 @@ where
         ensures key { IfOk result (elim [ Hit entry ↦ IfSome entry (λ e. K.eq key.now e.kept.key ≡ true) | Miss _ ↦ Unit {0} ]) }
         ensures live { IfOk result (elim [ Hit entry ↦ IfSome entry (λ e. is_expired now (P.expiry_of e.kept.properties) ≡ false) | Miss _ ↦ Unit {0} ]) }
     {
-        let hash = self.hash(key);
-        if let Some(entry) = self.get_first(now, hash, key)? {
+        let now = At::new(now);
+        let key = self.hashed(key);
+        if let Some(entry) = self.get_first(now, key.again())? {
             return Ok(RawGetOrFetch::Hit(Some(entry)));
         }
         spawner.reserve()?;
-        let asking = self.asking(hash, key)?;
+        let asking = self.asking(&key)?;
         self.ask(now, key, asking, fr(), fo, context, spawner)
     }
 
     // Makes what a look-up of a key needs. Fails with F7 alone.
     pub(super) fn asking(
         &self,
-        hash: u64,
-        key: &K,
+        key: &Hashed<'_, K>,
     ) -> Result<Asking<Shares<H, E, K, V, S, P, W, A, L, Q, T::Required, I>, K, V, P>> {
         let (notifier, waiter) = oneshot::channel(self.shares.shared.shards.alloc)?;
         Ok(Asking {
-            own: key.clone()?,
-            task: self.shares_of(hash)?,
-            shares: self.shares_of(hash)?,
-            hash,
+            own: key.key().clone()?,
+            task: self.shares_of(key.hash())?,
+            shares: self.shares_of(key.hash())?,
             notifier,
             waiter,
         })
@@ -104,8 +103,8 @@ where
     // Returns an entry of the key's record, or a wait, by one look-up under one lock. There is room for a task.
     fn ask<O, X>(
         &self,
-        now: u64,
-        key: &K,
+        now: At,
+        key: Hashed<'_, K>,
         asking: Asking<Shares<H, E, K, V, S, P, W, A, L, Q, T::Required, I>, K, V, P>,
         required: Option<T::Required>,
         fo: O,
@@ -118,22 +117,22 @@ where
         requires clones { (k c : K) → K.is_clone k c → K.eq c k ≡ true }
         requires optional { O.IsAlwaysCallable fo }
         requires room { 0 < X.room spawner.old }
-        ensures key { IfOk result (elim [ Hit entry ↦ IfSome entry (λ e. K.eq key.now e.kept.key ≡ true) | Miss _ ↦ Unit {0} ]) }
-        ensures live { IfOk result (elim [ Hit entry ↦ IfSome entry (λ e. is_expired now (P.expiry_of e.kept.properties) ≡ false) | Miss _ ↦ Unit {0} ]) }
+        ensures key { IfOk result (elim [ Hit entry ↦ IfSome entry (λ e. K.eq key.entry.1 e.kept.key ≡ true) | Miss _ ↦ Unit {0} ]) }
+        ensures live { IfOk result (elim [ Hit entry ↦ IfSome entry (λ e. is_expired now.0 (P.expiry_of e.kept.properties) ≡ false) | Miss _ ↦ Unit {0} ]) }
     {
         let Asking {
             shares,
             task,
-            hash,
             own,
             notifier,
             waiter,
         } = asking;
+        let hash = key.hash();
         match self
             .shares
             .shared
             .shards
-            .get_or_enqueue(now, hash, key, required, notifier)?
+            .get_or_enqueue(now, key, required, notifier)?
         {
             Lookup::Hit(core) => Ok(RawGetOrFetch::Hit(Some(shares.entry(core)))),
             Lookup::Lead {
@@ -219,12 +218,13 @@ where
         let given = Given {
             fetch: Pollable::new(fetch()),
         };
-        let hash = self.hash(key);
-        if let Some(entry) = self.get_first(now, hash, key)? {
+        let now = At::new(now);
+        let key = self.hashed(key);
+        if let Some(entry) = self.get_first(now, key.again())? {
             return Ok(RawGetOrFetch::Hit(Some(entry)));
         }
         spawner.reserve()?;
-        let asking = self.asking(hash, key)?;
+        let asking = self.asking(&key)?;
         self.ask(
             now,
             key,

@@ -1,16 +1,19 @@
 //! Inserts.
 
 ghost use Rattle.std.specs.Prelude.{◌≡◌, IfOk, true};
+ghost use Rattle.std.specs.Arc.{arc_value};
 
 use super::RawCache;
+use crate::counted::{At, RawInserted};
 use crate::entry::RawCacheEntry;
 use crate::expiry::expiring;
 use crate::fetch::FetchTypes;
 use crate::leaves::Leaves;
 use crate::pipe::Pipe;
-use crate::shards::{RawInserted, RawPut};
 use crate::shares::Shares;
-use foyer_core::{CoreEntry, Filter, Finder, InsertedOnto, Leave, Piece, Share, Weighter};
+use foyer_core::{
+    CoreEntry, Filter, Finder, InsertedOnto, Leave, Piece, PutOnto, Share, Weighter,
+};
 use foyer_policy::{
     Error, EventListener, Eviction, HashBuilder, Key, Properties, Reason, Result, Source, Value,
 };
@@ -42,7 +45,9 @@ where
         value: V,
     ) -> Result<RawCacheEntry<H, E, K, V, S, P, W, A, L, Q, T::Required, I>>
         requires clones { (k c : K) → K.is_clone k c → K.eq c k ≡ true }
-        ensures { IfOk result (λ e. (e.kept.key ≡ key) × (e.kept.value ≡ value)) }
+        ensures given { IfOk result (λ e. (e.kept.key ≡ key) × (e.kept.value ≡ value)) }
+        ensures hash { IfOk result (λ e. e.kept.hash ≡ S.hash_of (arc_value (arc_value (arc_value self.now.shares.shared).shared).hash_builder) (K.hash_input key)) }
+        ensures weight { IfOk result (λ e. W.weighs (arc_value (arc_value self.now.shares.shared).shared).rules.weighter key value e.kept.weight) }
     {
         self.insert_with_properties(now, key, value, P::default())
     }
@@ -64,10 +69,12 @@ where
         properties: P,
     ) -> Result<RawCacheEntry<H, E, K, V, S, P, W, A, L, Q, T::Required, I>>
         requires clones { (k c : K) → K.is_clone k c → K.eq c k ≡ true }
-        ensures { IfOk result (λ e. (e.kept.key ≡ key) × (e.kept.value ≡ value)) }
+        ensures given { IfOk result (λ e. (e.kept.key ≡ key) × (e.kept.value ≡ value)) }
+        ensures hash { IfOk result (λ e. e.kept.hash ≡ S.hash_of (arc_value (arc_value (arc_value self.now.shares.shared).shared).hash_builder) (K.hash_input key)) }
+        ensures weight { IfOk result (λ e. W.weighs (arc_value (arc_value self.now.shares.shared).shared).rules.weighter key value e.kept.weight) }
     {
         let hash = self.hash(&key);
-        let properties = expiring(properties, now, self.time_to_live);
+        let properties = expiring(properties, At::new(now), self.time_to_live);
         let kept = self.shares.shared.data(hash, key, value, properties);
         let shards = &self.shares.shared.shards;
         match Share::new(shards.alloc, kept) {
@@ -97,7 +104,7 @@ where
             return Err(shards.refuse_insert(hash, key, properties, kept.weight()));
         };
         let (mut leaves, mut later) = (Leaves::new(shards.alloc), None);
-        let placed = shards.place(now, kept, &mut entry, &mut leaves, &mut later);
+        let placed = shards.place(At::new(now), kept, &mut entry, &mut leaves, &mut later);
         if let Some(kept) = later {
             entry.discard();
             return self.insert_answering(now, shares, kept);
@@ -126,7 +133,7 @@ where
     {
         let shards = &self.shares.shared.shards;
         let mut leaves = Vec::new(shards.alloc);
-        match shards.emplace(now, kept, &mut leaves) {
+        match shards.emplace(At::new(now), kept, &mut leaves) {
             Ok(made) => Ok(self.came_in(shares, made, leaves)),
             Err(error) => Err(self.refused(error, leaves)),
         }
@@ -150,7 +157,7 @@ where
     pub fn put_with_properties(&self, now: u64, key: K, value: V, properties: P) -> Result<()>
         requires clones { (k c : K) → K.is_clone k c → K.eq c k ≡ true }
     {
-        let properties = expiring(properties, now, self.time_to_live);
+        let properties = expiring(properties, At::new(now), self.time_to_live);
         let kept = self
             .shares
             .shared
@@ -174,7 +181,7 @@ where
     {
         let shards = &self.shares.shared.shards;
         let (mut leaves, mut later) = (Leaves::new(shards.alloc), None);
-        let put = shards.put(now, kept, &mut leaves, &mut later);
+        let put = shards.put(At::new(now), kept, &mut leaves, &mut later);
         if let Some(kept) = later {
             return self.put_answering(now, kept);
         }
@@ -193,8 +200,8 @@ where
     {
         let shards = &self.shares.shared.shards;
         let mut leaves = Vec::new(shards.alloc);
-        match shards.put_answering(now, kept, &mut leaves) {
-            Ok(RawPut { answers, last }) => {
+        match shards.put_answering(At::new(now), kept, &mut leaves) {
+            Ok(PutOnto { answers, last }) => {
                 self.shares.answer(answers);
                 self.shares.tell_all(leaves);
                 if let Some(last) = last {
@@ -233,7 +240,7 @@ where
         let mut leaves = Vec::new(shared.shards.alloc);
         match shared
             .shards
-            .emplace_piece(now, piece, hash, weight, &mut leaves)
+            .emplace_piece(At::new(now), piece, hash, weight, &mut leaves)
         {
             Ok(made) => Ok(self.came_in(shares, made, leaves)),
             Err(error) => Err(self.refused(error, leaves)),

@@ -1,16 +1,17 @@
 //! Look-ups by a key.
 
 ghost use Rattle.std.specs.Prelude.{◌≡◌, IfOk, IfSome, false, true};
+ghost use Rattle.std.specs.Arc.{arc_value};
 ghost use Rattle.std.specs.Fn.{FnOnceReturnsAt};
 ghost use Rattle.foyer_policy.specs.Moments.{is_expired};
 ghost use Rattle.foyer_core.specs.NoEntry.{SeesLive};
 ghost use Rattle.foyer_core.specs.declared.outcome.Got.TheVariants.{Hit};
 
 use super::RawCache;
+use crate::counted::{At, Hashed};
 use crate::entry::RawCacheEntry;
 use crate::fetch::FetchTypes;
 use crate::pipe::Pipe;
-use crate::shards::FIRST;
 use crate::shares::Shares;
 use foyer_core::{Finder, Got};
 use foyer_policy::{
@@ -33,9 +34,20 @@ where
     Q: Pipe<Key = K, Value = V, Properties = P>,
     T: FetchTypes<K, V, P>,
 {
-    /// Returns the hash of a key. Equal keys have equal hashes.
-    pub fn hash(&self, key: &K) -> u64 {
+    /// Returns the hash of a key, as the hash builder makes it. Equal keys have equal hashes.
+    pub fn hash(&self, key: &K) -> u64
+        ensures { result ≡ S.hash_of (arc_value (arc_value (arc_value self.now.shares.shared).shared).hash_builder) (K.hash_input key.now) }
+    {
         self.shares.shared.hash_builder.hash_one(key)
+    }
+
+    // A key with its hash.
+    #[inline(always)]
+    pub(super) fn hashed<'a>(&self, key: &'a K) -> Hashed<'a, K>
+        ensures hash { result.0 ≡ S.hash_of (arc_value (arc_value (arc_value self.now.shares.shared).shared).hash_builder) (K.hash_input key.now) }
+        ensures key { result.1 ≡ key.now }
+    {
+        Hashed::new(self.hash(key), key)
     }
 
     /// Returns an entry of the key's record, unless that is expired at `now`. This counts as a use.
@@ -52,8 +64,9 @@ where
         ensures key { IfOk result (λ found. IfSome found (λ e. K.eq key.now e.kept.key ≡ true)) }
         ensures live { IfOk result (λ found. IfSome found (λ e. is_expired now (P.expiry_of e.kept.properties) ≡ false)) }
     {
-        let hash = self.hash(key);
-        self.entry_found(hash, self.shares.shared.shards.get(now, hash, key))
+        let key = self.hashed(key);
+        let hash = key.hash();
+        self.entry_found(hash, self.shares.shared.shards.get(At::new(now), key))
     }
 
     /// Calls `look` with the value that a `get` at `now` would find, counts a use of its record, and returns what `look`
@@ -68,8 +81,8 @@ where
         requires callable { F.IsAlwaysCallable look }
         ensures { IfOk result (λ found. IfSome found (SeesLive K.eq P.expiry_of now key.now (FnOnceReturnsAt F.FnOnce look))) }
     {
-        let hash = self.hash(key);
-        self.shares.shared.shards.read(now, hash, key, look)
+        let key = self.hashed(key);
+        self.shares.shared.shards.read(At::new(now), key, look)
     }
 
     /// Calls `look` as `read` does, and counts no use. A `peek` isn't counted among hits and misses either.
@@ -78,8 +91,8 @@ where
         requires callable { F.IsAlwaysCallable look }
         ensures { IfSome result (SeesLive K.eq P.expiry_of now key.now (FnOnceReturnsAt F.FnOnce look)) }
     {
-        let hash = self.hash(key);
-        self.shares.shared.shards.peek(now, hash, key, look)
+        let key = self.hashed(key);
+        self.shares.shared.shards.peek(At::new(now), key, look)
     }
 
     /// Returns a copy of the value that a `get` at `now` would find. This counts as a use, as `read` does.
@@ -116,14 +129,14 @@ where
     // An entry as `get` returns it. A miss is not counted, since another look-up follows it.
     pub(super) fn get_first(
         &self,
-        now: u64,
-        hash: u64,
-        key: &K,
+        now: At,
+        key: Hashed<'_, K>,
     ) -> Result<Option<RawCacheEntry<H, E, K, V, S, P, W, A, L, Q, T::Required, I>>>
-        ensures key { IfOk result (λ found. IfSome found (λ e. K.eq key.now e.kept.key ≡ true)) }
-        ensures live { IfOk result (λ found. IfSome found (λ e. is_expired now (P.expiry_of e.kept.properties) ≡ false)) }
+        ensures key { IfOk result (λ found. IfSome found (λ e. K.eq key.entry.1 e.kept.key ≡ true)) }
+        ensures live { IfOk result (λ found. IfSome found (λ e. is_expired now.0 (P.expiry_of e.kept.properties) ≡ false)) }
     {
-        self.entry_found(hash, self.shares.shared.shards.get_first(now, hash, key))
+        let hash = key.hash();
+        self.entry_found(hash, self.shares.shared.shards.get_first(now, key))
     }
 
     // The entry of what was found of a key with this hash. The handle is given back if the cache can't be shared once more (F7).
@@ -159,9 +172,9 @@ where
     ) -> Result<Option<RawCacheEntry<H, E, K, V, S, P, W, A, L, Q, T::Required, I>>>
         ensures { IfOk result (λ found. IfSome found (λ e. K.eq key.now e.kept.key ≡ true)) }
     {
-        let hash = self.hash(key);
-        let shares = self.shares_for(hash, key)?;
-        match self.shares.shared.shards.remove(hash, key)? {
+        let key = self.hashed(key);
+        let shares = self.shares_for(key.again())?;
+        match self.shares.shared.shards.remove(key)? {
             Some((core, left)) => {
                 self.shares.tell((Event::Remove, left));
                 Ok(Some(shares.entry(core)))
@@ -176,8 +189,7 @@ where
     /// # Errors
     /// F9 if the handle count would pass its limit.
     pub fn delete(&self, key: &K) -> Result<bool> {
-        let hash = self.hash(key);
-        match self.shares.shared.shards.delete(hash, key)? {
+        match self.shares.shared.shards.delete(self.hashed(key))? {
             Some(left) => {
                 self.shares.tell((Event::Remove, left));
                 Ok(true)
@@ -189,14 +201,13 @@ where
     // Shares for an entry of the key's record. If a reference count is full (F7), an F9 of the shard comes first.
     fn shares_for(
         &self,
-        hash: u64,
-        key: &K,
+        key: Hashed<'_, K>,
     ) -> Result<Shares<H, E, K, V, S, P, W, A, L, Q, T::Required, I>> {
-        let refused = match self.shares_of(hash) {
+        let refused = match self.shares_of(key.hash()) {
             Ok(shares) => return Ok(shares),
             Err(refused) => refused,
         };
-        match self.shares.shared.shards.refuses_get(FIRST, hash, key) {
+        match self.shares.shared.shards.refuses_get(key) {
             Some(reason) => Err(Error::new(reason)),
             None => Err(refused),
         }
@@ -207,13 +218,13 @@ where
     /// # Errors
     /// F9 if the handle count would pass its limit.
     pub fn touch(&self, now: u64, key: &K) -> Result<bool> {
-        let hash = self.hash(key);
-        self.shares.shared.shards.touch(now, hash, key)
+        let key = self.hashed(key);
+        self.shares.shared.shards.touch(At::new(now), key)
     }
 
     /// Returns whether a `get` at `now` finds the key. It counts no use, and takes no memory.
     pub fn contains(&self, now: u64, key: &K) -> bool {
-        let hash = self.hash(key);
-        self.shares.shared.shards.contains(now, hash, key)
+        let key = self.hashed(key);
+        self.shares.shared.shards.contains(At::new(now), key)
     }
 }

@@ -1,8 +1,9 @@
 //! What a caller waits with.
 
-ghost use Rattle.std.specs.Prelude.{◌≡◌, ⊤, IsErr, IsNone, IsOk, IsSome, IfErr, MatchOption, IfOk, IfSome, Ok, Err, Some, None, true, false};
+ghost use Rattle.std.specs.Prelude.{◌≡◌, ⊤, IsErr, IsNone, IsOk, IsSome, IsSomeAnd, IfErr, MatchOption, IfOk, IfSome, Ok, Err, Some, None, true, false};
 ghost use Rattle.futures.specs.Task.{Covers, Keeps};
 ghost use Rattle.futures.specs.Poll.{IfReady, OnPending};
+ghost use Rattle.futures.specs.Channel.{completed_source};
 ghost use Rattle.foyer_policy.specs.declared.error.Reason.TheVariants.{Spent};
 ghost use Rattle.foyer_raw.specs.Polls.{GivesAny};
 
@@ -117,6 +118,9 @@ where
 {
     type Output = Result<Option<RawCacheEntry<H, E, K, V, S, P, W, A, L, Q, R, I>>>;
 
+    // the end of its own channel
+    ghost needs = { λ wait source. IsSomeAnd wait.open (λ held. source ≡ completed_source held.1) };
+
     /// Gives the result once it came: an entry, or none if the fetch found nothing.
     ///
     /// # Errors
@@ -125,7 +129,7 @@ where
         ensures value { IfReady result (λ _. ⊤) }
         ensures again { OnPending result ⊤ }
         ensures same { GivesAny result }
-        ensures registered { OnPending result (Covers cx.new (λ _. ⊥)) }
+        ensures registered { OnPending result (Covers cx.new (λ source. IsSomeAnd self.new.open (λ held. source ≡ completed_source held.1))) }
         ensures kept { Keeps cx.old cx.new }
         ensures once { IfReady result (λ _. IsNone self.new.open) }
         ensures spent { IsNone self.old.open → (result ≡ Poll.Ready (Err Spent)) × (self.new ≡ self.old) }

@@ -1,9 +1,10 @@
-//! What is done with all shards, one after the other.
+//! Calls on all shards, one after the other. Each locks a shard, makes one step of `CountedShard`, and unlocks.
 
 ghost use Rattle.std.specs.Prelude.{◌≡◌, IsTrue, None};
 
-use super::{FIRST, Shards};
-use foyer_core::{Finder, Leave, Piece, Stats, shard_capacity};
+use super::Shards;
+use crate::counted::{At, Capacity};
+use foyer_core::{Finder, Leave, Piece, Stats};
 use foyer_policy::{Eviction, Key, Properties, Result, Value};
 use std::sync::Wait;
 
@@ -18,99 +19,78 @@ where
     I: Finder<K>,
 {
     // The weight that the records may have together: that of the last resize, or else the first one.
-    pub(crate) fn capacity(&self) -> usize {
+    pub(crate) fn capacity(&self) -> Capacity {
         *self.capacity.lock(&self.rt)
     }
 
-    // The sum of the weights of the records that are in, expired or not.
     pub(crate) fn usage(&self) -> u128 {
         let mut sum = 0u128;
         for shard in self.all.as_slice() {
-            let usage = shard.lock(&self.rt).shard.usage();
+            let usage = shard.lock(&self.rt).usage();
             sum = sum.saturating_add(usage as u128);
         }
         sum
     }
 
-    // How many records are in, expired or not.
     pub(crate) fn entries(&self) -> u128 {
         let mut sum = 0u128;
         for shard in self.all.as_slice() {
-            let entries = shard.lock(&self.rt).shard.entries();
+            let entries = shard.lock(&self.rt).entries();
             sum = sum.saturating_add(entries as u128);
         }
         sum
     }
 
-    // What all shards counted.
     pub(crate) fn stats(&self) -> Stats {
         let mut sum = Stats::default();
         for shard in self.all.as_slice() {
-            sum.add(&shard.lock(&self.rt).stats);
+            sum.add(&shard.lock(&self.rt).stats());
         }
         sum
     }
 
-    // Counts from 0 again.
     pub(crate) fn reset_stats(&self) {
         for shard in self.all.as_slice() {
-            shard.lock(&self.rt).stats = Stats::default();
+            shard.lock(&self.rt).reset_stats();
         }
     }
 
-    // Takes everything out.
     pub(crate) fn clear(&self, leaves: &mut Vec<Leave<K, V, P>>) -> Result<()> {
         for shard in self.all.as_slice() {
-            let (mut locked, told) = (shard.lock(&self.rt), leaves.len());
-            let done = locked.shard.clear_onto(leaves);
-            locked.count_since(FIRST, leaves, told);
-            done?;
+            shard.lock(&self.rt).clear(leaves)?;
         }
         Ok(())
     }
 
-    // Evicts, at a moment, all that is not pinned.
-    pub(crate) fn evict_all(&self, now: u64, leaves: &mut Vec<Leave<K, V, P>>) -> Result<()> {
+    pub(crate) fn evict_all(&self, now: At, leaves: &mut Vec<Leave<K, V, P>>) -> Result<()> {
         for shard in self.all.as_slice() {
-            let (mut locked, told) = (shard.lock(&self.rt), leaves.len());
-            let done = locked.shard.evict_unpinned(now, leaves);
-            locked.count_since(now, leaves, told);
-            done?;
+            shard.lock(&self.rt).evict_all(now, leaves)?;
         }
         Ok(())
     }
 
-    // Gives each shard its part of a capacity, and then evicts from each, at a moment, what is over. Resizes take turns.
+    // Gives each shard its part of a capacity, and then evicts what is over. Resizes take turns.
     pub(crate) fn resize(
         &self,
-        now: u64,
-        capacity: usize,
+        now: At,
+        capacity: Capacity,
         leaves: &mut Vec<Leave<K, V, P>>,
     ) -> Result<()> {
         let mut resizing = self.capacity.lock(&self.rt);
         *resizing = capacity;
-        self.share_out(capacity);
+        let shards = self.all.as_slice();
+        for (number, shard) in shards.iter().enumerate() {
+            let part = capacity.part(shards.len(), number);
+            shard.lock(&self.rt).set_capacity(part);
+        }
         let done = self.evict_to_capacity(now, leaves);
         drop(resizing);
         done
     }
 
-    // Gives each shard its part of a capacity.
-    fn share_out(&self, capacity: usize) {
-        let shards = self.all.as_slice();
-        for (number, shard) in shards.iter().enumerate() {
-            let part = shard_capacity(capacity, shards.len(), number);
-            shard.lock(&self.rt).shard.set_capacity(part);
-        }
-    }
-
-    // Evicts from each shard, at a moment, what is over its capacity.
-    fn evict_to_capacity(&self, now: u64, leaves: &mut Vec<Leave<K, V, P>>) -> Result<()> {
+    fn evict_to_capacity(&self, now: At, leaves: &mut Vec<Leave<K, V, P>>) -> Result<()> {
         for shard in self.all.as_slice() {
-            let (mut locked, told) = (shard.lock(&self.rt), leaves.len());
-            let done = locked.shard.evict_to_capacity(now, leaves);
-            locked.count_since(now, leaves, told);
-            done?;
+            shard.lock(&self.rt).evict_to_capacity(now, leaves)?;
         }
         Ok(())
     }
@@ -120,46 +100,36 @@ where
         ensures { ((v : E.View) → IsTrue (E.model.takes v config.now)) → IsTrue result }
     {
         for shard in self.all.as_slice() {
-            if !shard.lock(&self.rt).shard.takes(config) {
+            if !shard.lock(&self.rt).takes(config) {
                 return false;
             }
         }
         true
     }
 
-    // Tells each shard's policy another configuration, where it takes it. That takes turns with resizes.
+    // Takes turns with resizes.
     pub(crate) fn configure(&self, config: &E::Config)
         requires { E.model.fault config.now ≡ None }
     {
         let resizing = self.capacity.lock(&self.rt);
         for shard in self.all.as_slice() {
-            let mut locked = shard.lock(&self.rt);
-            if locked.shard.takes(config) {
-                locked.shard.configure(config);
-            }
+            shard.lock(&self.rt).configure(config);
         }
         drop(resizing);
     }
 
-    // Evicts, at a moment, all that is not pinned, of each shard once there is room for its pieces.
     pub(crate) fn flush(
         &self,
-        now: u64,
+        now: At,
         leaves: &mut Vec<Leave<K, V, P>>,
         pieces: &mut Vec<Piece<K, V, P>>,
     ) -> Result<()> {
         for shard in self.all.as_slice() {
-            let (mut locked, told) = (shard.lock(&self.rt), leaves.len());
-            let room = told.saturating_add(locked.shard.entries() as usize);
-            pieces.reserve(room)?;
-            let done = locked.shard.evict_unpinned(now, leaves);
-            locked.count_since(now, leaves, told);
-            done?;
+            shard.lock(&self.rt).flush(now, leaves, pieces)?;
         }
         Ok(())
     }
 
-    // Takes the records out of which the predicate says yes, of each shard once there is room for its pieces.
     pub(crate) fn flush_if<F: Fn(&K, &V) -> bool>(
         &self,
         predicate: &F,
@@ -169,13 +139,18 @@ where
         requires { F.IsAlwaysCallable predicate.now }
     {
         for shard in self.all.as_slice() {
-            let (mut locked, told) = (shard.lock(&self.rt), leaves.len());
-            let room = told.saturating_add(locked.shard.entries() as usize);
-            pieces.reserve(room)?;
-            let done = locked.shard.evict_if(self.alloc, predicate, leaves);
-            locked.count_since(FIRST, leaves, told);
-            done?;
+            shard
+                .lock(&self.rt)
+                .flush_if(self.alloc, predicate, leaves, pieces)?;
         }
         Ok(())
+    }
+
+    // Pieces of the records of the shard at a place.
+    pub(crate) fn pieces(&self, place: usize) -> Result<Vec<Piece<K, V, P>>> {
+        match self.all.get(place) {
+            Some(shard) => shard.lock(&self.rt).pieces(self.alloc),
+            None => Ok(Vec::new(self.alloc)),
+        }
     }
 }

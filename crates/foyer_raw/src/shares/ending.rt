@@ -3,6 +3,7 @@
 ghost use Rattle.std.specs.Prelude.{◌≡◌, true};
 
 use super::Shares;
+use crate::counted::{At, Hashed};
 use crate::expiry::expiring;
 use crate::pipe::Pipe;
 use foyer_core::{Filter, Finder, Weighter};
@@ -17,11 +18,20 @@ pub(crate) struct Fetch {
     /// Its number.
     pub(crate) id: u64,
     /// The time of the call that began it.
-    pub(crate) now: u64,
+    pub(crate) now: At,
     /// The hash of its key.
     pub(crate) hash: u64,
     /// How long what it fetched lives, if that says no expiry of its own.
     pub(crate) time_to_live: Option<u64>,
+}
+
+impl Fetch {
+    // Its key with the hash.
+    pub(crate) fn hashed<'a, K>(&self, key: &'a K) -> Hashed<'a, K>
+        ensures { result ≡ (self.entry.now.hash, key.now) }
+    {
+        Hashed::new(self.hash, key)
+    }
 }
 
 impl<H, E, K, V, S, P, W, A, L, Q, R, I> Shares<H, E, K, V, S, P, W, A, L, Q, R, I>
@@ -55,7 +65,7 @@ where
     // Ends a fetch with a fault.
     pub(crate) fn fail(&self, fetch: Fetch, key: &K, fault: Fault) {
         let error = self.refusal(fault);
-        self.ended(self.shared.shards.end(fetch.hash, key, fetch.id, error));
+        self.ended(self.shared.shards.end(fetch.hashed(key), fetch.id, error));
     }
 
     // The refusal of a fault, which all who wait share.

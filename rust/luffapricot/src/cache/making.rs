@@ -6,7 +6,7 @@ use crate::error::{BoxError, Error, Result, fault_of};
 use crate::guard::{Held, resumed};
 use crate::key::{Equivalent, Name};
 use crate::properties::{Properties, Props};
-use crate::proved::foyer_policy;
+use crate::proved::{foyer_policy, foyer_raw::At};
 use crate::rules::{Key, Value};
 use crate::types::panicked;
 use std::hash::{BuildHasher, Hash};
@@ -116,6 +116,6 @@ where
     where
         Q: Hash + Equivalent<K> + ?Sized,
     {
-        self.ask(key, |name| self.inner.get_first(self.clock.now(), self.inner.hash(name), name))
+        self.ask(key, |name| self.inner.get_first(At::new(self.clock.now()), self.inner.hashed(name)))
     }
 }

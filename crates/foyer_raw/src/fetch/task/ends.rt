@@ -3,10 +3,9 @@
 ghost use Rattle.std.specs.Prelude.{◌≡◌, true};
 
 use super::RawFetch;
+use crate::counted::Later;
 use crate::fetch::FetchTypes;
 use crate::pipe::Pipe;
-use crate::shards::Later;
-use crate::shares::Fetch;
 use crate::ticket::{Waiters, refuse, tell_none};
 use foyer_core::{FetchOrTake, FetchTarget, Filter, Finder, Piece, Weighter};
 use foyer_policy::{EventListener, Eviction, Fault, HashBuilder, Key, Properties, Source, Value};
@@ -37,8 +36,8 @@ where
 
     // Whether the fetch is open under this key, its own.
     fn is_open_for(&self, key: &K) -> bool {
-        let Fetch { id, hash, .. } = self.fetch;
-        self.shares.shared.shards.is_open(hash, key, id)
+        let key = self.fetch.hashed(key);
+        self.shares.shared.shards.is_open(key, self.fetch.id)
     }
 
     // Ends the fetch with what was fetched, inserted at the first caller's `now`, and gives all that wait their result. If
@@ -61,8 +60,12 @@ where
 
     // Ends the fetch with a piece.
     fn complete_piece(&self, key: &K, piece: Piece<K, V, P>) {
-        let Fetch { id, now, hash, .. } = self.fetch;
-        let ended = self.shares.shared.complete_piece(now, hash, key, id, piece);
+        let ended = self.shares.shared.complete_piece(
+            self.fetch.now,
+            self.fetch.hashed(key),
+            self.fetch.id,
+            piece,
+        );
         self.shares.ended(ended);
     }
 
@@ -75,11 +78,8 @@ where
 
     // Returns a builder that a waiting caller brought, or else the waiting callers; none if the fetch isn't open.
     pub(super) fn later(&self) -> Option<Later<K, V, P, T::Required>> {
-        let Fetch { id, hash, .. } = self.fetch;
-        match &self.key {
-            Some(key) => self.shares.shared.shards.fetch_or_take(hash, key, id),
-            None => None,
-        }
+        let key = self.fetch.hashed(self.key.as_ref()?);
+        self.shares.shared.shards.fetch_or_take(key, self.fetch.id)
     }
 
     // Gives all that wait the fault, or none.

@@ -3,6 +3,7 @@
 // Written by rust/erase/erase.py from crates/foyer_raw/src/cache.rt: change that.
 #[allow(unused_imports)]
 use crate::rattle_std::prelude::*;
+use crate::proved::foyer_raw::counted::Capacity;
 use crate::proved::foyer_raw::fetch::{FetchTypes, NoFetch};
 use crate::proved::foyer_raw::listener::NoListener;
 use crate::proved::foyer_raw::pipe::{NoopPipe, Pipe};
@@ -26,7 +27,6 @@ mod bulk;
 mod fetching;
 mod insertion;
 mod keys;
-mod walks;
 
 /// An in-memory cache that threads share, with its eviction policy as a type parameter.
 ///
@@ -90,7 +90,12 @@ where
             alloc, &config,
         )?;
         let shared = Shared {
-            shards: ::std::mem::ManuallyDrop::new(Shards::new(rt, alloc, made, config.capacity)?),
+            shards: ::std::mem::ManuallyDrop::new(Shards::new(
+                rt,
+                alloc,
+                made,
+                Capacity::new(config.capacity),
+            )?),
             hash_builder: Arc::new(alloc, config.hash_builder)?,
             rules: Rules {
                 weighter: config.weighter,
@@ -166,7 +171,7 @@ where
     /// Returns the capacity, a total weight, as the last `resize` or else the configuration set it.
     #[inline]
     pub fn capacity(&self) -> usize {
-        self.shares.shared.shards.capacity()
+        self.shares.shared.shards.capacity().weight()
     }
 
     /// Returns the number of shards.

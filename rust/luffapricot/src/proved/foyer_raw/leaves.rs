@@ -7,17 +7,17 @@ use crate::proved::foyer_core::Leave;
 use crate::rattle_std::alloc::Global;
 use crate::rattle_std::mem::replace;
 
-/// Leaves, in order. One or two stand in place, and take no memory.
-pub(crate) struct Leaves<K, V, P> {
+/// What left with a call, in order. Up to two records take no memory.
+pub struct Leaves<K, V, P> {
     pub(crate) first: Option<Leave<K, V, P>>,
     pub(crate) second: Option<Leave<K, V, P>>,
     pub(crate) more: Vec<Leave<K, V, P>>,
 }
 
 impl<K, V, P> Leaves<K, V, P> {
-    // None.
+    /// Nothing.
     #[inline(always)]
-    pub(crate) fn new(alloc: Global) -> Self {
+    pub fn new(alloc: Global) -> Self {
         Leaves {
             first: None,
             second: None,
@@ -25,7 +25,7 @@ impl<K, V, P> Leaves<K, V, P> {
         }
     }
 
-    // Takes all from a list, which keeps its room where at most two are in it. There were none here before.
+    // Takes all from a list, which keeps its room if at most two are in it.
     #[inline(always)]
     pub(crate) fn take(&mut self, all: &mut Vec<Leave<K, V, P>>) {
         match all.len() {

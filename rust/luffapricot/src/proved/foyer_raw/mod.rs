@@ -5,11 +5,12 @@
 #[allow(unused_imports)]
 use crate::rattle_std::prelude::*;
 pub mod cache;
+pub mod counted;
 pub mod entry;
 mod expiry;
 pub mod fetch;
 pub mod flush;
-mod leaves;
+pub mod leaves;
 pub mod listener;
 pub mod pipe;
 pub mod runtime;
@@ -20,6 +21,7 @@ mod stripes;
 pub mod ticket;
 
 pub use cache::RawCache;
+pub use counted::{At, Capacity, CountedShard, Hashed};
 pub use entry::RawCacheEntry;
 pub use fetch::{
     AllTasks, Direct, FetchTypes, Given, ListSpawner, NoFetch, OptionalFetch, OptionalFetchBuilder, Pollable,

@@ -3,29 +3,15 @@
 // Written by rust/erase/erase.py from crates/foyer_raw/src/shards.rt: change that.
 #[allow(unused_imports)]
 use crate::rattle_std::prelude::*;
-use crate::proved::foyer_raw::ticket::{Answer, Notifier};
-use crate::proved::foyer_core::{Finder, Shard, shard_of};
+use crate::proved::foyer_raw::counted::{Capacity, CountedShard, Hashed, RawShard};
+use crate::proved::foyer_core::{Finder, shard_of};
 use crate::proved::foyer_policy::{Event, EventListener, Eviction, Key, Properties, Result, Value};
 use crate::rattle_std::alloc::Global;
 use crate::rattle_std::hint::spin_loop;
 use crate::rattle_std::sync::{Mutex, MutexGuard, Wait};
 
 mod bulk;
-mod counting;
-mod fetches;
-mod keys;
-mod walk;
-
-pub(crate) use counting::Counting;
-pub(crate) use fetches::{Later, RawEnded};
-pub(crate) use keys::{RawInserted, RawPut};
-
-/// A shard of a cache whose waiters hold senders, and whose later builders are of this type.
-pub(crate) type RawShard<E, K, V, P, R, I> = Shard<E, K, V, P, Notifier<Answer<K, V, P>>, R, I>;
-
-/// The first moment. A question that knows no moment is asked at it: what has not expired from the start is not expired
-/// then.
-pub(crate) const FIRST: u64 = 0;
+mod calls;
 
 // How often a thread looks whether a lock is free, before it sleeps.
 const LOOKS: u32 = 100;
@@ -40,9 +26,9 @@ where
     I: Finder<K>,
 {
     pub(crate) rt: H,
-    all: Vec<Mutex<Counting<E, K, V, P, R, I>>>,
+    all: Vec<Mutex<CountedShard<E, K, V, P, R, I>>>,
     // The capacity, under the lock that orders changes of all shards.
-    capacity: Mutex<usize>,
+    capacity: Mutex<Capacity>,
     pub(crate) alloc: Global,
 }
 
@@ -60,7 +46,7 @@ where
         rt: H,
         alloc: Global,
         made: Vec<RawShard<E, K, V, P, R, I>>,
-        capacity: usize,
+        capacity: Capacity,
     ) -> Result<Self> {
         Ok(Shards {
             rt,
@@ -105,7 +91,7 @@ where
 
     // The shard of a hash, locked. A lock that is free is had without waiting.
     #[inline(always)]
-    pub(crate) fn lock(&self, hash: u64) -> MutexGuard<'_, Counting<E, K, V, P, R, I>> {
+    pub(crate) fn lock(&self, hash: u64) -> MutexGuard<'_, CountedShard<E, K, V, P, R, I>> {
         let place = self.index_of(hash);
         match self.all[place].try_lock() {
             Some(shard) => shard,
@@ -113,11 +99,17 @@ where
         }
     }
 
+    // The shard of a key, locked.
+    #[inline(always)]
+    fn of(&self, key: &Hashed<'_, K>) -> MutexGuard<'_, CountedShard<E, K, V, P, R, I>> {
+        self.lock(key.hash())
+    }
+
     // A shard whose lock was held, locked. A step of a shard is short, and mostly ends before a thread would be asleep: so
     // the thread looks for a while first.
     #[cold]
     #[inline(never)]
-    fn wait_for(&self, place: usize) -> MutexGuard<'_, Counting<E, K, V, P, R, I>> {
+    fn wait_for(&self, place: usize) -> MutexGuard<'_, CountedShard<E, K, V, P, R, I>> {
         let shard = &self.all[place];
         for _look in 0..LOOKS {
             spin_loop();
@@ -134,10 +126,10 @@ where
 fn locked<E: Eviction, K: Key, V: Value, P: Properties, R, I: Finder<K>>(
     alloc: Global,
     made: Vec<RawShard<E, K, V, P, R, I>>,
-) -> Result<Vec<Mutex<Counting<E, K, V, P, R, I>>>> {
+) -> Result<Vec<Mutex<CountedShard<E, K, V, P, R, I>>>> {
     let mut all = Vec::new(alloc);
     for shard in made {
-        all.push(Mutex::new(Counting::new(alloc, shard)))?;
+        all.push(Mutex::new(CountedShard::new(alloc, shard)))?;
     }
     Ok(all)
 }

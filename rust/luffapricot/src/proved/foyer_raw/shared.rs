@@ -3,7 +3,8 @@
 // Written by rust/erase/erase.py from crates/foyer_raw/src/shared.rt: change that.
 #[allow(unused_imports)]
 use crate::rattle_std::prelude::*;
-use crate::proved::foyer_raw::shards::{RawEnded, Shards};
+use crate::proved::foyer_raw::counted::{At, Hashed, RawEnded};
+use crate::proved::foyer_raw::shards::Shards;
 use crate::proved::foyer_core::{Data, Filter, Finder, Piece, Rules, Weighter};
 use crate::proved::foyer_policy::{EventListener, Eviction, HashBuilder, Key, Properties, Value};
 use crate::rattle_std::sync::{Arc, Wait};
@@ -71,8 +72,7 @@ where
     // holds for ever, the weighter isn't asked, and this is 0.
     #[inline]
     pub(crate) fn weight_of(&self, hash: u64, piece: &Piece<K, V, P>) -> usize {
-        let is_known = self.shards.lock(hash).shard.knows(hash, piece);
-        if is_known {
+        if self.shards.knows(hash, piece) {
             return 0;
         }
         self.rules.weighter.weigh(piece.key(), piece.value())
@@ -83,32 +83,17 @@ where
     #[inline]
     pub(crate) fn complete_piece(
         &self,
-        now: u64,
-        hash: u64,
-        key: &K,
+        now: At,
+        key: Hashed<'_, K>,
         fetch: u64,
         piece: Piece<K, V, P>,
     ) -> RawEnded<K, V, P> {
         let own = self.hash_builder.hash_one(piece.key());
-        let weight = if own == hash && *key == *piece.key() {
+        let weight = if own == key.hash() && *key.key() == *piece.key() {
             self.weight_of(own, &piece)
         } else {
             0
         };
-        let is_home = self.shards.index_of(own) == self.shards.index_of(hash);
-        let mut locked = self.shards.lock(hash);
-        let ended = locked.shard.complete_piece(
-            self.shards.alloc,
-            now,
-            hash,
-            key,
-            fetch,
-            piece,
-            own,
-            is_home,
-            weight,
-        );
-        locked.count_ended(now, &ended);
-        ended
+        self.shards.complete_piece(now, key, fetch, piece, own, weight)
     }
 }

@@ -3,12 +3,12 @@
 // Written by rust/erase/erase.py from crates/foyer_raw/src/shares.rt: change that.
 #[allow(unused_imports)]
 use crate::rattle_std::prelude::*;
+use crate::proved::foyer_raw::counted::RawEnded;
 use crate::proved::foyer_raw::entry::RawCacheEntry;
 use crate::proved::foyer_raw::flush::Flush;
 use crate::proved::foyer_raw::leaves::Leaves;
 use crate::proved::foyer_raw::listener::tell;
 use crate::proved::foyer_raw::pipe::Pipe;
-use crate::proved::foyer_raw::shards::RawEnded;
 use crate::proved::foyer_raw::stripes::Stripe;
 use crate::proved::foyer_raw::ticket::{Answer, Notifier, Ticket, Waiters, refuse};
 use crate::proved::foyer_core::{Answers, CoreEntry, Ended, Finder, Leave, Left, Piece};

@@ -5,6 +5,7 @@
 use crate::rattle_std::prelude::*;
 use super::RawCache;
 use super::fetching::Asking;
+use crate::proved::foyer_raw::counted::At;
 use crate::proved::foyer_raw::entry::RawCacheEntry;
 use crate::proved::foyer_raw::fetch::{AllTasks, Direct, FetchTypes, Given, ListSpawner, RawWait, RequiredFetch};
 use crate::proved::foyer_raw::pipe::Pipe;
@@ -74,20 +75,21 @@ where
     where
         F: FnOnce() -> crate::rattle_std::result::Result<(V, P), Fault>,
     {
-        let hash = self.hash(key);
-        if let Some(entry) = self.get_first(now, hash, key)? {
+        let now = At::new(now);
+        let key = self.hashed(key);
+        if let Some(entry) = self.get_first(now, key.again())? {
             return Ok(entry);
         }
         let Asking {
             shares,
             task,
-            hash: _,
             own,
             notifier,
             waiter,
-        } = self.asking(hash, key)?;
+        } = self.asking(&key)?;
         let shards = &self.shares.shared.shards;
-        match shards.get_or_enqueue(now, hash, key, None, notifier)? {
+        let hash = key.hash();
+        match shards.get_or_enqueue(now, key, None, notifier)? {
             Lookup::Hit(core) => return Ok(shares.entry(core)),
             Lookup::Wait { token: _ } => {}
             Lookup::Lead {

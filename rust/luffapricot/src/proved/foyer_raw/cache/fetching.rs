@@ -4,6 +4,7 @@
 #[allow(unused_imports)]
 use crate::rattle_std::prelude::*;
 use super::RawCache;
+use crate::proved::foyer_raw::counted::{At, Hashed};
 use crate::proved::foyer_raw::fetch::{
     Begin, Direct, FetchTypes, Given, NoFetch, Pollable, RawFetch, RawGetOrFetch, RawWait, RequiredFetch,
     Spawner,
@@ -16,12 +17,11 @@ use crate::proved::foyer_policy::{EventListener, Eviction, HashBuilder, Key, Pro
 use crate::rattle_std::futures::channel::oneshot;
 use crate::rattle_std::sync::Wait;
 
-/// What a look-up needs that may have to wait: shares of the cache for an entry or a wait and for a task, the key's
-/// hash and a clone of it, and both ends of a channel.
+/// What a look-up needs that may have to wait: shares of the cache for an entry or a wait and for a task, a clone of the
+/// key, and both ends of a channel.
 pub(crate) struct Asking<C, K, V, P> {
     pub(crate) shares: C,
     pub(crate) task: C,
-    pub(crate) hash: u64,
     pub(crate) own: K,
     pub(crate) notifier: Notifier<Answer<K, V, P>>,
     pub(crate) waiter: Waiter<Answer<K, V, P>>,
@@ -68,12 +68,13 @@ where
         F: FnOnce() -> Option<T::Required>,
         X: Spawner<RawFetch<H, E, K, V, S, P, W, A, L, Q, T, I>>,
     {
-        let hash = self.hash(key);
-        if let Some(entry) = self.get_first(now, hash, key)? {
+        let now = At::new(now);
+        let key = self.hashed(key);
+        if let Some(entry) = self.get_first(now, key.again())? {
             return Ok(RawGetOrFetch::Hit(Some(entry)));
         }
         spawner.reserve()?;
-        let asking = self.asking(hash, key)?;
+        let asking = self.asking(&key)?;
         self.ask(now, key, asking, fr(), fo, context, spawner)
     }
 
@@ -81,15 +82,13 @@ where
     #[inline]
     pub(crate) fn asking(
         &self,
-        hash: u64,
-        key: &K,
+        key: &Hashed<'_, K>,
     ) -> Result<Asking<Shares<H, E, K, V, S, P, W, A, L, Q, T::Required, I>, K, V, P>> {
         let (notifier, waiter) = oneshot::channel(self.shares.shared.shards.alloc)?;
         Ok(Asking {
-            own: key.try_clone()?,
-            task: self.shares_of(hash)?,
-            shares: self.shares_of(hash)?,
-            hash,
+            own: key.key().try_clone()?,
+            task: self.shares_of(key.hash())?,
+            shares: self.shares_of(key.hash())?,
             notifier,
             waiter,
         })
@@ -99,8 +98,8 @@ where
     #[inline]
     fn ask<O, X>(
         &self,
-        now: u64,
-        key: &K,
+        now: At,
+        key: Hashed<'_, K>,
         asking: Asking<Shares<H, E, K, V, S, P, W, A, L, Q, T::Required, I>, K, V, P>,
         required: Option<T::Required>,
         fo: O,
@@ -114,16 +113,16 @@ where
         let Asking {
             shares,
             task,
-            hash,
             own,
             notifier,
             waiter,
         } = asking;
+        let hash = key.hash();
         match self
             .shares
             .shared
             .shards
-            .get_or_enqueue(now, hash, key, required, notifier)?
+            .get_or_enqueue(now, key, required, notifier)?
         {
             Lookup::Hit(core) => Ok(RawGetOrFetch::Hit(Some(shares.entry(core)))),
             Lookup::Lead {
@@ -202,12 +201,13 @@ where
         let given = Given {
             fetch: Pollable::new(fetch()),
         };
-        let hash = self.hash(key);
-        if let Some(entry) = self.get_first(now, hash, key)? {
+        let now = At::new(now);
+        let key = self.hashed(key);
+        if let Some(entry) = self.get_first(now, key.again())? {
             return Ok(RawGetOrFetch::Hit(Some(entry)));
         }
         spawner.reserve()?;
-        let asking = self.asking(hash, key)?;
+        let asking = self.asking(&key)?;
         self.ask(now, key, asking, Some(given), || None::<NoFetch>, (), spawner)
     }
 }

@@ -4,12 +4,12 @@
 #[allow(unused_imports)]
 use crate::rattle_std::prelude::*;
 use super::RawCache;
+use crate::proved::foyer_raw::counted::{At, RawInserted, RawPut};
 use crate::proved::foyer_raw::entry::RawCacheEntry;
 use crate::proved::foyer_raw::expiry::expiring;
 use crate::proved::foyer_raw::fetch::FetchTypes;
 use crate::proved::foyer_raw::leaves::Leaves;
 use crate::proved::foyer_raw::pipe::Pipe;
-use crate::proved::foyer_raw::shards::{RawInserted, RawPut};
 use crate::proved::foyer_raw::shares::Shares;
 use crate::proved::foyer_core::{CoreEntry, Filter, Finder, InsertedOnto, Leave, Piece, Share, Weighter};
 use crate::proved::foyer_policy::{
@@ -64,7 +64,7 @@ where
         properties: P,
     ) -> Result<RawCacheEntry<H, E, K, V, S, P, W, A, L, Q, T::Required, I>> {
         let hash = self.hash(&key);
-        let properties = expiring(properties, now, self.time_to_live);
+        let properties = expiring(properties, At::new(now), self.time_to_live);
         let kept = self.shares.shared.data(hash, key, value, properties);
         let shards = &self.shares.shared.shards;
         match Share::new(shards.alloc, kept) {
@@ -91,7 +91,7 @@ where
             return Err(shards.refuse_insert(hash, key, properties, kept.weight()));
         };
         let (mut leaves, mut later) = (Leaves::new(shards.alloc), None);
-        let placed = shards.place(now, kept, &mut entry, &mut leaves, &mut later);
+        let placed = shards.place(At::new(now), kept, &mut entry, &mut leaves, &mut later);
         if let Some(kept) = later {
             entry.discard();
             return self.insert_answering(now, shares, kept);
@@ -117,7 +117,7 @@ where
     ) -> Result<RawCacheEntry<H, E, K, V, S, P, W, A, L, Q, T::Required, I>> {
         let shards = &self.shares.shared.shards;
         let mut leaves = Vec::new(shards.alloc);
-        match shards.emplace(now, kept, &mut leaves) {
+        match shards.emplace(At::new(now), kept, &mut leaves) {
             Ok(made) => Ok(self.came_in(shares, made, leaves)),
             Err(error) => Err(self.refused(error, leaves)),
         }
@@ -139,7 +139,7 @@ where
     /// Those of `insert_with_properties`.
     #[inline]
     pub fn put_with_properties(&self, now: u64, key: K, value: V, properties: P) -> Result<()> {
-        let properties = expiring(properties, now, self.time_to_live);
+        let properties = expiring(properties, At::new(now), self.time_to_live);
         let kept = self.shares.shared.data(self.hash(&key), key, value, properties);
         let shards = &self.shares.shared.shards;
         match Share::new(shards.alloc, kept) {
@@ -153,7 +153,7 @@ where
     fn put_share(&self, now: u64, kept: Share<K, V, P>) -> Result<()> {
         let shards = &self.shares.shared.shards;
         let (mut leaves, mut later) = (Leaves::new(shards.alloc), None);
-        let put = shards.put(now, kept, &mut leaves, &mut later);
+        let put = shards.put(At::new(now), kept, &mut leaves, &mut later);
         if let Some(kept) = later {
             return self.put_answering(now, kept);
         }
@@ -170,7 +170,7 @@ where
     fn put_answering(&self, now: u64, kept: Share<K, V, P>) -> Result<()> {
         let shards = &self.shares.shared.shards;
         let mut leaves = Vec::new(shards.alloc);
-        match shards.put_answering(now, kept, &mut leaves) {
+        match shards.put_answering(At::new(now), kept, &mut leaves) {
             Ok(RawPut { answers, last }) => {
                 self.shares.answer(answers);
                 self.shares.tell_all(leaves);
@@ -207,7 +207,10 @@ where
             }
         };
         let mut leaves = Vec::new(shared.shards.alloc);
-        match shared.shards.emplace_piece(now, piece, hash, weight, &mut leaves) {
+        match shared
+            .shards
+            .emplace_piece(At::new(now), piece, hash, weight, &mut leaves)
+        {
             Ok(made) => Ok(self.came_in(shares, made, leaves)),
             Err(error) => Err(self.refused(error, leaves)),
         }

@@ -4,10 +4,10 @@
 #[allow(unused_imports)]
 use crate::rattle_std::prelude::*;
 use super::RawCache;
+use crate::proved::foyer_raw::counted::{At, Hashed};
 use crate::proved::foyer_raw::entry::RawCacheEntry;
 use crate::proved::foyer_raw::fetch::FetchTypes;
 use crate::proved::foyer_raw::pipe::Pipe;
-use crate::proved::foyer_raw::shards::FIRST;
 use crate::proved::foyer_raw::shares::Shares;
 use crate::proved::foyer_core::{Finder, Got};
 use crate::proved::foyer_policy::{
@@ -28,10 +28,16 @@ where
     Q: Pipe<Key = K, Value = V, Properties = P>,
     T: FetchTypes<K, V, P>,
 {
-    /// Returns the hash of a key. Equal keys have equal hashes.
+    /// Returns the hash of a key, as the hash builder makes it. Equal keys have equal hashes.
     #[inline]
     pub fn hash(&self, key: &K) -> u64 {
         self.shares.shared.hash_builder.hash_one(key)
+    }
+
+    // A key with its hash.
+    #[inline(always)]
+    pub(crate) fn hashed<'a>(&self, key: &'a K) -> Hashed<'a, K> {
+        Hashed::new(self.hash(key), key)
     }
 
     /// Returns an entry of the key's record, unless that is expired at `now`. This counts as a use.
@@ -46,8 +52,9 @@ where
         now: u64,
         key: &K,
     ) -> Result<Option<RawCacheEntry<H, E, K, V, S, P, W, A, L, Q, T::Required, I>>> {
-        let hash = self.hash(key);
-        self.entry_found(hash, self.shares.shared.shards.get(now, hash, key))
+        let key = self.hashed(key);
+        let hash = key.hash();
+        self.entry_found(hash, self.shares.shared.shards.get(At::new(now), key))
     }
 
     /// Calls `look` with the value that a `get` at `now` would find, counts a use of its record, and returns what `look`
@@ -59,15 +66,15 @@ where
     /// F9 if the handle count would pass its limit.
     #[inline(always)]
     pub fn read<X, F: FnOnce(&V) -> X>(&self, now: u64, key: &K, look: F) -> Result<Option<X>> {
-        let hash = self.hash(key);
-        self.shares.shared.shards.read(now, hash, key, look)
+        let key = self.hashed(key);
+        self.shares.shared.shards.read(At::new(now), key, look)
     }
 
     /// Calls `look` as `read` does, and counts no use. A `peek` isn't counted among hits and misses either.
     #[inline(always)]
     pub fn peek<X, F: FnOnce(&V) -> X>(&self, now: u64, key: &K, look: F) -> Option<X> {
-        let hash = self.hash(key);
-        self.shares.shared.shards.peek(now, hash, key, look)
+        let key = self.hashed(key);
+        self.shares.shared.shards.peek(At::new(now), key, look)
     }
 
     /// Returns a copy of the value that a `get` at `now` would find. This counts as a use, as `read` does.
@@ -103,11 +110,11 @@ where
     #[inline]
     pub(crate) fn get_first(
         &self,
-        now: u64,
-        hash: u64,
-        key: &K,
+        now: At,
+        key: Hashed<'_, K>,
     ) -> Result<Option<RawCacheEntry<H, E, K, V, S, P, W, A, L, Q, T::Required, I>>> {
-        self.entry_found(hash, self.shares.shared.shards.get_first(now, hash, key))
+        let hash = key.hash();
+        self.entry_found(hash, self.shares.shared.shards.get_first(now, key))
     }
 
     // The entry of what was found of a key with this hash. The handle is given back if the cache can't be shared once more (F7).
@@ -140,9 +147,9 @@ where
         &self,
         key: &K,
     ) -> Result<Option<RawCacheEntry<H, E, K, V, S, P, W, A, L, Q, T::Required, I>>> {
-        let hash = self.hash(key);
-        let shares = self.shares_for(hash, key)?;
-        match self.shares.shared.shards.remove(hash, key)? {
+        let key = self.hashed(key);
+        let shares = self.shares_for(key.again())?;
+        match self.shares.shared.shards.remove(key)? {
             Some((core, left)) => {
                 self.shares.tell((Event::Remove, left));
                 Ok(Some(shares.entry(core)))
@@ -158,8 +165,7 @@ where
     /// F9 if the handle count would pass its limit.
     #[inline]
     pub fn delete(&self, key: &K) -> Result<bool> {
-        let hash = self.hash(key);
-        match self.shares.shared.shards.delete(hash, key)? {
+        match self.shares.shared.shards.delete(self.hashed(key))? {
             Some(left) => {
                 self.shares.tell((Event::Remove, left));
                 Ok(true)
@@ -170,12 +176,12 @@ where
 
     // Shares for an entry of the key's record. If a reference count is full (F7), an F9 of the shard comes first.
     #[inline]
-    fn shares_for(&self, hash: u64, key: &K) -> Result<Shares<H, E, K, V, S, P, W, A, L, Q, T::Required, I>> {
-        let refused = match self.shares_of(hash) {
+    fn shares_for(&self, key: Hashed<'_, K>) -> Result<Shares<H, E, K, V, S, P, W, A, L, Q, T::Required, I>> {
+        let refused = match self.shares_of(key.hash()) {
             Ok(shares) => return Ok(shares),
             Err(refused) => refused,
         };
-        match self.shares.shared.shards.refuses_get(FIRST, hash, key) {
+        match self.shares.shared.shards.refuses_get(key) {
             Some(reason) => Err(Error::new(reason)),
             None => Err(refused),
         }
@@ -187,14 +193,14 @@ where
     /// F9 if the handle count would pass its limit.
     #[inline]
     pub fn touch(&self, now: u64, key: &K) -> Result<bool> {
-        let hash = self.hash(key);
-        self.shares.shared.shards.touch(now, hash, key)
+        let key = self.hashed(key);
+        self.shares.shared.shards.touch(At::new(now), key)
     }
 
     /// Returns whether a `get` at `now` finds the key. It counts no use, and takes no memory.
     #[inline]
     pub fn contains(&self, now: u64, key: &K) -> bool {
-        let hash = self.hash(key);
-        self.shares.shared.shards.contains(now, hash, key)
+        let key = self.hashed(key);
+        self.shares.shared.shards.contains(At::new(now), key)
     }
 }

@@ -153,7 +153,7 @@ where
         }
         if let Some(key) = key {
             let error = Error::new(Reason::TaskCancelled);
-            shares.ended(shares.shared.shards.end(fetch.hash, &key, fetch.id, error));
+            shares.ended(shares.shared.shards.end(fetch.hashed(&key), fetch.id, error));
         }
     }
 }

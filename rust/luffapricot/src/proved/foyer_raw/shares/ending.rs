@@ -4,6 +4,7 @@
 #[allow(unused_imports)]
 use crate::rattle_std::prelude::*;
 use super::Shares;
+use crate::proved::foyer_raw::counted::{At, Hashed};
 use crate::proved::foyer_raw::expiry::expiring;
 use crate::proved::foyer_raw::pipe::Pipe;
 use crate::proved::foyer_core::{Filter, Finder, Weighter};
@@ -18,11 +19,19 @@ pub(crate) struct Fetch {
     /// Its number.
     pub(crate) id: u64,
     /// The time of the call that began it.
-    pub(crate) now: u64,
+    pub(crate) now: At,
     /// The hash of its key.
     pub(crate) hash: u64,
     /// How long what it fetched lives, if that says no expiry of its own.
     pub(crate) time_to_live: Option<u64>,
+}
+
+impl Fetch {
+    // Its key with the hash.
+    #[inline]
+    pub(crate) fn hashed<'a, K>(&self, key: &'a K) -> Hashed<'a, K> {
+        Hashed::new(self.hash, key)
+    }
 }
 
 impl<H, E, K, V, S, P, W, A, L, Q, R, I> Shares<H, E, K, V, S, P, W, A, L, Q, R, I>
@@ -52,7 +61,7 @@ where
     #[inline]
     pub(crate) fn fail(&self, fetch: Fetch, key: &K, fault: Fault) {
         let error = self.refusal(fault);
-        self.ended(self.shared.shards.end(fetch.hash, key, fetch.id, error));
+        self.ended(self.shared.shards.end(fetch.hashed(key), fetch.id, error));
     }
 
     // The refusal of a fault, which all who wait share.

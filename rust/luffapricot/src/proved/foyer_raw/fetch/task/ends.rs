@@ -4,10 +4,9 @@
 #[allow(unused_imports)]
 use crate::rattle_std::prelude::*;
 use super::RawFetch;
+use crate::proved::foyer_raw::counted::Later;
 use crate::proved::foyer_raw::fetch::FetchTypes;
 use crate::proved::foyer_raw::pipe::Pipe;
-use crate::proved::foyer_raw::shards::Later;
-use crate::proved::foyer_raw::shares::Fetch;
 use crate::proved::foyer_raw::ticket::{Waiters, refuse, tell_none};
 use crate::proved::foyer_core::{FetchOrTake, FetchTarget, Filter, Finder, Piece, Weighter};
 use crate::proved::foyer_policy::{EventListener, Eviction, Fault, HashBuilder, Key, Properties, Source, Value};
@@ -40,8 +39,8 @@ where
     // Whether the fetch is open under this key, its own.
     #[inline]
     fn is_open_for(&self, key: &K) -> bool {
-        let Fetch { id, hash, .. } = self.fetch;
-        self.shares.shared.shards.is_open(hash, key, id)
+        let key = self.fetch.hashed(key);
+        self.shares.shared.shards.is_open(key, self.fetch.id)
     }
 
     // Ends the fetch with what was fetched, inserted at the first caller's `now`, and gives all that wait their result. If
@@ -65,8 +64,10 @@ where
     // Ends the fetch with a piece.
     #[inline]
     fn complete_piece(&self, key: &K, piece: Piece<K, V, P>) {
-        let Fetch { id, now, hash, .. } = self.fetch;
-        let ended = self.shares.shared.complete_piece(now, hash, key, id, piece);
+        let ended =
+            self.shares
+                .shared
+                .complete_piece(self.fetch.now, self.fetch.hashed(key), self.fetch.id, piece);
         self.shares.ended(ended);
     }
 
@@ -81,11 +82,8 @@ where
     // Returns a builder that a waiting caller brought, or else the waiting callers; none if the fetch isn't open.
     #[inline]
     pub(crate) fn later(&self) -> Option<Later<K, V, P, T::Required>> {
-        let Fetch { id, hash, .. } = self.fetch;
-        match &self.key {
-            Some(key) => self.shares.shared.shards.fetch_or_take(hash, key, id),
-            None => None,
-        }
+        let key = self.fetch.hashed(self.key.as_ref()?);
+        self.shares.shared.shards.fetch_or_take(key, self.fetch.id)
     }
 
     // Gives all that wait the fault, or none.

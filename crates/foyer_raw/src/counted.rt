@@ -1,0 +1,89 @@
+//! What is under a shard's lock: a shard, the counts of what its calls did, and each call as one step of both.
+//!
+//! No call of this module takes a lock.
+
+ghost use Rattle.std.specs.Prelude.{◌≡◌, []};
+
+use crate::leaves::Leaves;
+use crate::ticket::{Answer, Notifier};
+use foyer_core::{Finder, Leave, Shard, Stats};
+use foyer_policy::{Eviction, Key, Properties, Value};
+use std::alloc::Global;
+
+mod bulk;
+mod counts;
+mod entries;
+mod fetches;
+mod insertion;
+mod keys;
+mod passed;
+mod pieces;
+
+pub use fetches::{Later, RawEnded};
+pub use insertion::{RawInserted, RawPut};
+pub use passed::{At, Capacity, Hashed};
+
+/// A shard of a cache whose waiters hold senders, and whose later builders are of this type.
+pub type RawShard<E, K, V, P, R, I> = Shard<E, K, V, P, Notifier<Answer<K, V, P>>, R, I>;
+
+// The first time. What has not expired from the start is not expired then.
+const FIRST: u64 = 0;
+
+/// A shard, and the counts of what its calls did.
+///
+/// Contracts see its `shard`, by the definitions of foyer_core, and its `stats`.
+#[derive(Drop)]
+pub struct CountedShard<E: Eviction, K: Key, V: Value, P: Properties, R: Drop, I: Finder<K>> {
+    shard: RawShard<E, K, V, P, R, I>,
+    stats: Stats,
+    // Where an insert puts what leaves, so that its room is used again.
+    left: Vec<Leave<K, V, P>>,
+    // Padding, so that what an insert writes never shares a cache line, or a pair of lines, with the next shard's lock.
+    apart: [u64; 16],
+    ghost taken: { left.items ≡ [] },
+}
+
+impl<E: Eviction, K: Key, V: Value, P: Properties, R: Drop, I: Finder<K>> CountedShard<
+    E,
+    K,
+    V,
+    P,
+    R,
+    I,
+> {
+    ghost use Rattle.foyer_core.specs.declared.stats.Stats.{Stats as StatsOf};
+
+    /// Creates a shard of which nothing was counted yet.
+    pub fn new(alloc: Global, shard: RawShard<E, K, V, P, R, I>) -> Self
+        ensures { result.shard ≡ shard }
+    {
+        CountedShard {
+            shard,
+            stats: Stats::default(),
+            left: Vec::new(alloc),
+            apart: [0; 16],
+        }
+    }
+
+    /// Returns the shard.
+    pub fn into_shard(self) -> RawShard<E, K, V, P, R, I>
+        ensures { result ≡ self.shard }
+    {
+        let CountedShard { shard, .. } = self;
+        shard
+    }
+
+    /// Returns the counts.
+    pub fn stats(&self) -> Stats
+        ensures { result ≡ self.now.stats }
+    {
+        self.stats
+    }
+
+    /// Sets all counts to 0.
+    pub fn reset_stats(&mut self)
+        ensures { self.new.shard ≡ self.old.shard }
+    {
+        self.stats = Stats::default();
+    }
+}
