@@ -8,6 +8,7 @@ use std::alloc::Global;
 use std::sync::Wait;
 use std::thread;
 use std::thread::Threads;
+use std::time::{Clock, Duration};
 
 type Cache<H> = CacheOf<H, u32, u64, ModHasher>;
 
@@ -80,6 +81,44 @@ fn each_thread_finds_its_own(rt: HostRuntime) -> Outcome {
             },
         );
         assert_eq!(rt; (found, cache.usage(), cache.entries()), (800, 400, 400));
+    }
+    Ok(())
+}
+
+// Waits until something is so, ten seconds at most.
+fn until<R: Clock, F: Fn() -> bool>(rt: &R, is_so: &F) {
+    for _look in 0..10_000u64 {
+        if is_so() {
+            return;
+        }
+        thread::sleep(rt, Duration::from_millis(1));
+    }
+}
+
+// A caller that finds another making the value gets that one's, which isn't there before the caller waits.
+#[test]
+fn who_waits_gets_what_another_makes(rt: HostRuntime) -> Outcome {
+    for config in all_policies() {
+        let cache = cache(rt, 4096, config)?;
+        for key in 0..10u32 {
+            let before = cache.stats();
+            let (made, got) = thread::join(
+                &rt,
+                || {
+                    let entry = cache.get_or_insert_with(0, &key, || {
+                        until(&rt, &|| cache.stats().waits > before.waits);
+                        Ok(value(1, key))
+                    });
+                    entry.map_or(0, |entry| *entry)
+                },
+                || {
+                    until(&rt, &|| cache.stats().fetches > before.fetches);
+                    let entry = cache.get_or_insert_with(0, &key, || Ok(value(2, key)));
+                    entry.map_or(0, |entry| *entry)
+                },
+            );
+            assert_eq!(rt; (made, got), (value(1, key), value(1, key)));
+        }
     }
     Ok(())
 }

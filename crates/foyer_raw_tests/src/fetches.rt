@@ -18,6 +18,7 @@ use std::alloc::Global;
 use std::random::RandomSource;
 use std::sync::Wait;
 
+mod counts;
 mod ends;
 mod moments;
 mod tasks;

@@ -42,7 +42,19 @@ pub fn run<H: Runtime>(cases: &mut Cases<H>) -> Outcome {
         ("evict_all evicts what is expired first", Call::EvictAll),
         ("a flush evicts what is expired first", Call::Flush),
     ] {
-        cases.of_each_policy(name, |config| evicts(rt, config, call))?;
+        cases.of_each_policy(name, |config| evicts(rt, config, call, false))?;
+    }
+    for (name, call) in [
+        (
+            "an insert beside a fetch evicts what is expired first",
+            Call::Insert,
+        ),
+        (
+            "a put beside a fetch evicts what is expired first",
+            Call::Put,
+        ),
+    ] {
+        cases.of_each_policy(name, |config| evicts(rt, config, call, true))?;
     }
     for (name, query) in [
         ("contains misses what is expired", Query::Contains),
@@ -77,10 +89,14 @@ fn half_expiring<H: Runtime>(
     Ok((cache, piece))
 }
 
-// What is expired leaves first, and else what the policy gives.
-fn evicts<H: Runtime>(rt: H, config: EvictionConfig, call: Call) -> Outcome {
+// What is expired leaves first, and else what the policy gives: also while a fetch of another key is open.
+fn evicts<H: Runtime>(rt: H, config: EvictionConfig, call: Call, is_fetching: bool) -> Outcome {
     let heard = Heard::new(rt.alloc(), RECORDS)?;
     let (cache, piece) = half_expiring(rt, config.clone()?, &heard)?;
+    let mut led = Led { task: None };
+    if is_fetching {
+        drop(cache.get_or_fetch(NOW, &u64::MAX, || Fetch::Now(None), &mut led)?);
+    }
     call.make(rt, &cache, NOW, piece)?;
     same(
         rt,

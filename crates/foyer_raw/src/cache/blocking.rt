@@ -6,7 +6,9 @@ use super::RawCache;
 use super::fetching::Asking;
 use crate::counted::At;
 use crate::entry::RawCacheEntry;
-use crate::fetch::{AllTasks, Direct, FetchTypes, Given, ListSpawner, RawWait, RequiredFetch};
+use crate::fetch::{
+    AllTasks, Direct, FetchTypes, Given, ListSpawner, RawGetOrFetch, RawWait, RequiredFetch,
+};
 use crate::pipe::Pipe;
 use crate::runtime::Runtime;
 use crate::shares::Fetch;
@@ -15,7 +17,6 @@ use foyer_policy::{
     Error, EventListener, Eviction, Fault, HashBuilder, Key, Properties, Reason, Result, Source,
     Value,
 };
-use futures::Future;
 use futures::executor::block_on;
 use std::io::{self, ErrorKind};
 
@@ -151,26 +152,46 @@ where
     {
         let shards = &self.shares.shared.shards;
         let mut tasks = ListSpawner::new(shards.alloc);
-        let look = self.get_or_fetch(now, key, || fetch, &mut tasks)?;
+        let wait = match self.get_or_fetch(now, key, || fetch, &mut tasks)? {
+            RawGetOrFetch::Hit(entry) => return entry.ok_or(Error::new(Reason::Spent)),
+            RawGetOrFetch::Miss(wait) => wait,
+        };
         match block_on(&shards.rt, AllTasks::new(tasks)) {
-            Ok(()) => waited(&shards.rt, look),
+            Ok(()) => waited(&shards.rt, wait),
             Err(error) => Err(unblocked(&error)),
         }
     }
 }
 
-// What a wait ends with. This thread is parked meanwhile.
-fn waited<H, X, F>(rt: &H, wait: F) -> Result<X>
+// What a wait ends with. If that hasn't come yet, this thread is parked meanwhile, which takes memory.
+fn waited<H, E, K, V, S, P, W, A, L, Q, R, I>(
+    rt: &H,
+    wait: RawWait<H, E, K, V, S, P, W, A, L, Q, R, I>,
+) -> Result<RawCacheEntry<H, E, K, V, S, P, W, A, L, Q, R, I>>
 where
     H: Runtime,
-    F: Future<Output = Result<Option<X>>>,
-    requires { F.can_poll wait }
+    E: Eviction,
+    K: Key,
+    V: Value,
+    S: Drop,
+    P: Properties,
+    W: Drop,
+    A: Drop,
+    L: EventListener<Key = K, Value = V>,
+    I: Finder<K>,
+    Q: Pipe<Key = K, Value = V, Properties = P>,
+    R: Drop,
 {
-    match block_on(rt, wait) {
-        Ok(Ok(Some(entry))) => Ok(entry),
-        Ok(Ok(None)) => Err(Error::new(Reason::NoValue)),
-        Ok(Err(error)) => Err(error),
-        Err(error) => Err(unblocked(&error)),
+    let ended = match wait.try_now() {
+        Ok(ended) => ended,
+        Err(wait) => match block_on(rt, wait) {
+            Ok(ended) => ended,
+            Err(error) => return Err(unblocked(&error)),
+        },
+    };
+    match ended? {
+        Some(entry) => Ok(entry),
+        None => Err(Error::new(Reason::NoValue)),
     }
 }
 

@@ -14,6 +14,7 @@ use crate::ticket::{Answer, Waiter};
 use foyer_core::{Finder, TagFinder};
 use foyer_policy::{Error, EventListener, Eviction, Key, Properties, Reason, Result, Value};
 use futures::Future;
+use futures::channel::oneshot::Canceled;
 use futures::task::{Context, Poll};
 use std::fmt::{self, Debug};
 use std::sync::Wait;
@@ -67,6 +68,42 @@ where
     {
         RawWait {
             open: Some((shares, waiter)),
+        }
+    }
+
+    // Returns the result if it came already, and else the wait unchanged.
+    pub(crate) fn try_now(
+        mut self,
+    ) -> std::result::Result<
+        Result<Option<RawCacheEntry<H, E, K, V, S, P, W, A, L, Q, R, I>>>,
+        Self,
+    > {
+        let Some((shares, mut waiter)) = self.open.take() else {
+            return Ok(Err(Error::new(Reason::Spent)));
+        };
+        match waiter.try_recv() {
+            Ok(Some(answer)) => Ok(Self::entry_of(shares, Ok(answer))),
+            Ok(None) => {
+                self.open = Some((shares, waiter));
+                Err(self)
+            }
+            Err(canceled) => Ok(Self::entry_of(shares, Err(canceled))),
+        }
+    }
+
+    // The entry of what came through the channel, if one did.
+    fn entry_of(
+        shares: Shares<H, E, K, V, S, P, W, A, L, Q, R, I>,
+        received: std::result::Result<Result<Answer<K, V, P>>, Canceled>,
+    ) -> Result<Option<RawCacheEntry<H, E, K, V, S, P, W, A, L, Q, R, I>>> {
+        match received {
+            Ok(Ok(Some(ticket))) => match ticket.into_core() {
+                Some(core) => Ok(Some(shares.entry(core))),
+                None => Ok(None),
+            },
+            Ok(Ok(None)) => Ok(None),
+            Ok(Err(error)) => Err(error),
+            Err(_) => Err(Error::new(Reason::ChannelClosed)),
         }
     }
 }
@@ -141,16 +178,7 @@ where
             self.open = Some((shares, waiter));
             return Poll::Pending;
         };
-        let answer = match received {
-            Ok(Ok(Some(ticket))) => match ticket.into_core() {
-                Some(core) => Ok(Some(shares.entry(core))),
-                None => Ok(None),
-            },
-            Ok(Ok(None)) => Ok(None),
-            Ok(Err(error)) => Err(error),
-            Err(_) => Err(Error::new(Reason::ChannelClosed)),
-        };
-        Poll::Ready(answer)
+        Poll::Ready(Self::entry_of(shares, received))
     }
 }
 

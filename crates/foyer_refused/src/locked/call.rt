@@ -4,10 +4,11 @@ use super::Runtime;
 use super::caches::{Entry, Locked, Search, Shared};
 use crate::call::Kept;
 use crate::cores::weighing;
-use foyer_core::CacheProperties;
+use foyer_core::{CacheProperties, FetchTarget};
 use foyer_policy::{Error, Properties, Reason, Result};
 use foyer_raw::ListSpawner;
 use futures::Future;
+use futures::future::ready;
 use futures::task::{Context, Poll};
 
 /// A call. Each has its key, and inserts their weight.
@@ -19,6 +20,9 @@ pub enum Call {
     Phantom(u64),
     Piece(u64),
     Get(u64),
+    /// A value of this weight is made where the key is missing.
+    Make(u64, usize),
+    FetchBlocking(u64),
     Remove(u64),
     Delete(u64),
     Read(u64),
@@ -157,6 +161,11 @@ fn with_waits<H: Runtime>(
 fn found<H: Runtime>(locked: &mut Locked<H>, call: Call) -> Result<Answer<H>> {
     let entry = match call {
         Call::Get(key) => locked.cache.get(0, &key)?,
+        Call::Make(key, weight) => Some(made(&locked.cache, key, weight)?),
+        Call::FetchBlocking(key) => {
+            let fetch = ready(Ok(FetchTarget::from(weighing(1))));
+            Some(locked.cache.get_or_fetch_blocking(0, &key, fetch)?)
+        }
         Call::Remove(key) => locked.cache.remove(&key)?,
         Call::Touch(key) => return Ok(yes(locked.cache.touch(0, &key)?)),
         Call::Delete(key) => return Ok(yes(locked.cache.delete(&key)?)),
@@ -174,6 +183,12 @@ fn found<H: Runtime>(locked: &mut Locked<H>, call: Call) -> Result<Answer<H>> {
         Some(entry) => Ok(Answer::one(entry)),
         None => Ok(Answer::Odd),
     }
+}
+
+// Makes a value that brings its properties.
+fn made<H: Runtime>(cache: &Shared<H>, key: u64, weight: usize) -> Result<Entry<H>> {
+    let properties = CacheProperties::default().with_expiry(Some(1));
+    cache.get_or_insert_with_properties(0, &key, || Ok((weighing(weight), properties)))
 }
 
 // Looks at the value of a key, without an entry.

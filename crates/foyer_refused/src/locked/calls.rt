@@ -28,6 +28,10 @@ pub fn row(name: &str) -> Option<(Filled, Call)> {
         "locked_foreign_piece" => (ROOMY, Call::Piece(FETCHED)),
         "locked_get" => (ROOMY, Call::Get(5)),
         "locked_remove" => (ROOMY, Call::Remove(5)),
+        "locked_make" => (ROOMY, Call::Make(FETCHED, 1)),
+        "locked_make_evicts_10" => (FULL, Call::Make(FETCHED, 10)),
+        "locked_make_hit" => (ROOMY, Call::Make(5, 1)),
+        "locked_fetch_blocking_hit" => (ROOMY, Call::FetchBlocking(5)),
         "locked_delete" => (ROOMY, Call::Delete(5)),
         "locked_read" => (ROOMY, Call::Read(5)),
         "locked_peek" => (ROOMY, Call::Peek(5)),
@@ -68,6 +72,8 @@ pub fn wanted(filled: Filled, call: Call, victims: &'static [u64; 10]) -> Wanted
             refs: if filled.waits { 2 } else { 1 },
             ..of_insert(filled, Call::Insert(key, weight), victims)
         },
+        Call::Make(FETCHED, weight) => of_insert(filled, Call::Insert(FETCHED, weight), victims),
+        Call::Make(..) | Call::FetchBlocking(_) => Wanted { refs: 2, ..same },
         Call::PutPhantom(_) => Wanted {
             leaves: &[FETCHED, FETCHED],
             events: (Event::Remove, Event::Evict),

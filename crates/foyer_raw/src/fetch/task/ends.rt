@@ -28,27 +28,19 @@ where
 {
     // Returns whether the fetch is open.
     pub(super) fn is_open(&self) -> bool {
+        let fetch = self.fetch;
         match &self.key {
-            Some(key) => self.is_open_for(key),
+            Some(key) => self.shares.shared.shards.is_open(fetch.hashed(key), fetch.id),
             None => false,
         }
     }
 
-    // Whether the fetch is open under this key, its own.
-    fn is_open_for(&self, key: &K) -> bool {
-        let key = self.fetch.hashed(key);
-        self.shares.shared.shards.is_open(key, self.fetch.id)
-    }
-
     // Ends the fetch with what was fetched, inserted at the first caller's `now`, and gives all that wait their result. If
-    // the fetch isn't open nothing happens, and neither the weighter nor the filter is asked.
+    // the fetch isn't open, nothing changes.
     pub(super) fn complete(&self, key: Option<K>, target: FetchTarget<K, V, P>, source: Source) {
         let Some(key) = key else {
             return;
         };
-        if !self.is_open_for(&key) {
-            return;
-        }
         match target {
             FetchTarget::Entry { value, properties } => {
                 self.shares

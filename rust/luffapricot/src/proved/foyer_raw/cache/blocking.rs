@@ -7,7 +7,9 @@ use super::RawCache;
 use super::fetching::Asking;
 use crate::proved::foyer_raw::counted::At;
 use crate::proved::foyer_raw::entry::RawCacheEntry;
-use crate::proved::foyer_raw::fetch::{AllTasks, Direct, FetchTypes, Given, ListSpawner, RawWait, RequiredFetch};
+use crate::proved::foyer_raw::fetch::{
+    AllTasks, Direct, FetchTypes, Given, ListSpawner, RawGetOrFetch, RawWait, RequiredFetch,
+};
 use crate::proved::foyer_raw::pipe::Pipe;
 use crate::proved::foyer_raw::runtime::Runtime;
 use crate::proved::foyer_raw::shares::Fetch;
@@ -15,7 +17,6 @@ use crate::proved::foyer_core::{Filter, Finder, Lookup, Weighter};
 use crate::proved::foyer_policy::{
     Error, EventListener, Eviction, Fault, HashBuilder, Key, Properties, Reason, Result, Source, Value,
 };
-use crate::rattle_std::futures::Future;
 use crate::rattle_std::futures::executor::block_on;
 use crate::rattle_std::io::{self, ErrorKind};
 
@@ -145,26 +146,43 @@ where
     ) -> Result<RawCacheEntry<H, E, K, V, S, P, W, A, L, Q, Given<R>, I>> {
         let shards = &self.shares.shared.shards;
         let mut tasks = ListSpawner::new(shards.alloc);
-        let look = self.get_or_fetch(now, key, || fetch, &mut tasks)?;
+        let wait = match self.get_or_fetch(now, key, || fetch, &mut tasks)? {
+            RawGetOrFetch::Hit(entry) => return entry.ok_or(Error::new(Reason::Spent)),
+            RawGetOrFetch::Miss(wait) => wait,
+        };
         match block_on(&shards.rt, AllTasks::new(tasks)) {
-            Ok(()) => waited(&shards.rt, look),
+            Ok(()) => waited(&shards.rt, wait),
             Err(error) => Err(unblocked(&error)),
         }
     }
 }
 
-// What a wait ends with. This thread is parked meanwhile.
+// What a wait ends with. If that hasn't come yet, this thread is parked meanwhile, which takes memory.
 #[inline]
-fn waited<H, X, F>(rt: &H, wait: F) -> Result<X>
+fn waited<H, E, K, V, S, P, W, A, L, Q, R, I>(
+    rt: &H,
+    wait: RawWait<H, E, K, V, S, P, W, A, L, Q, R, I>,
+) -> Result<RawCacheEntry<H, E, K, V, S, P, W, A, L, Q, R, I>>
 where
     H: Runtime,
-    F: Future<Output = Result<Option<X>>>,
+    E: Eviction,
+    K: Key,
+    V: Value,
+    P: Properties,
+    L: EventListener<Key = K, Value = V>,
+    I: Finder<K>,
+    Q: Pipe<Key = K, Value = V, Properties = P>,
 {
-    match block_on(rt, wait) {
-        Ok(Ok(Some(entry))) => Ok(entry),
-        Ok(Ok(None)) => Err(Error::new(Reason::NoValue)),
-        Ok(Err(error)) => Err(error),
-        Err(error) => Err(unblocked(&error)),
+    let ended = match wait.try_now() {
+        Ok(ended) => ended,
+        Err(wait) => match block_on(rt, wait) {
+            Ok(ended) => ended,
+            Err(error) => return Err(unblocked(&error)),
+        },
+    };
+    match ended? {
+        Some(entry) => Ok(entry),
+        None => Err(Error::new(Reason::NoValue)),
     }
 }
 

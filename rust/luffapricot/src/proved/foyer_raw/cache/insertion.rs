@@ -4,14 +4,14 @@
 #[allow(unused_imports)]
 use crate::rattle_std::prelude::*;
 use super::RawCache;
-use crate::proved::foyer_raw::counted::{At, RawInserted, RawPut};
+use crate::proved::foyer_raw::counted::{At, RawInserted};
 use crate::proved::foyer_raw::entry::RawCacheEntry;
 use crate::proved::foyer_raw::expiry::expiring;
 use crate::proved::foyer_raw::fetch::FetchTypes;
 use crate::proved::foyer_raw::leaves::Leaves;
 use crate::proved::foyer_raw::pipe::Pipe;
 use crate::proved::foyer_raw::shares::Shares;
-use crate::proved::foyer_core::{CoreEntry, Filter, Finder, InsertedOnto, Leave, Piece, Share, Weighter};
+use crate::proved::foyer_core::{CoreEntry, Filter, Finder, InsertedOnto, Leave, Piece, PutOnto, Share, Weighter};
 use crate::proved::foyer_policy::{
     Error, EventListener, Eviction, HashBuilder, Key, Properties, Reason, Result, Source, Value,
 };
@@ -171,7 +171,7 @@ where
         let shards = &self.shares.shared.shards;
         let mut leaves = Vec::new(shards.alloc);
         match shards.put_answering(At::new(now), kept, &mut leaves) {
-            Ok(RawPut { answers, last }) => {
+            Ok(PutOnto { answers, last }) => {
                 self.shares.answer(answers);
                 self.shares.tell_all(leaves);
                 if let Some(last) = last {

@@ -7,20 +7,15 @@ use super::counts::{count_leaves, count_made, count_put, is_phantom};
 use super::{At, CountedShard, FIRST};
 use crate::proved::foyer_raw::leaves::Leaves;
 use crate::proved::foyer_raw::ticket::{Answer, Notifier};
-use crate::proved::foyer_core::{Answers, CoreEntry, Counted, Finder, InsertedOnto, Leave, Piece, Share};
+use crate::proved::foyer_core::{CoreEntry, Counted, Finder, InsertedOnto, Leave, Piece, PutOnto, Share};
 use crate::proved::foyer_policy::{Error, Eviction, Key, Properties, Reason, Result, Source, Value};
 use crate::rattle_std::alloc::Global;
 
 /// What an insert returns that has not failed.
 pub type RawInserted<K, V, P> = InsertedOnto<K, V, P, Notifier<Answer<K, V, P>>>;
 
-/// What a put returns that has not failed while fetches are open.
-pub struct RawPut<K, V, P> {
-    /// What the key's waiters get.
-    pub answers: Answers<K, V, P, Notifier<Answer<K, V, P>>>,
-    /// What left with the entry.
-    pub last: Option<Leave<K, V, P>>,
-}
+/// What a put returns that has not failed.
+pub type RawPut<K, V, P> = PutOnto<K, V, P, Notifier<Answer<K, V, P>>>;
 
 impl<E: Eviction, K: Key, V: Value, P: Properties, R, I: Finder<K>> CountedShard<E, K, V, P, R, I> {
     /// Inserts a record at a time with this share of its data, and says in an entry that was made of the share where the
@@ -85,8 +80,7 @@ impl<E: Eviction, K: Key, V: Value, P: Properties, R, I: Finder<K>> CountedShard
         made
     }
 
-    /// Inserts a record as `put` does, also while fetches are open, and appends what leaves: an insert, whose entry is taken
-    /// back.
+    /// Inserts a record as `put` does, also while fetches are open, and appends what leaves.
     #[inline]
     pub fn put_answering(
         &mut self,
@@ -95,10 +89,12 @@ impl<E: Eviction, K: Key, V: Value, P: Properties, R, I: Finder<K>> CountedShard
         kept: Share<K, V, P>,
         leaves: &mut Vec<Leave<K, V, P>>,
     ) -> Result<RawPut<K, V, P>> {
-        let InsertedOnto { entry, answers } = self.emplace(alloc, now, kept, leaves)?;
-        let last = self.take_back(&entry).ok().flatten();
-        entry.discard();
-        Ok(RawPut { answers, last })
+        let told = leaves.len();
+        let phantom = is_phantom(kept.properties());
+        let put = self.shard.put_share(alloc, now.0, kept, leaves);
+        count_put(&mut self.stats, &put, phantom);
+        count_leaves(&mut self.stats, now.0, &leaves[told..]);
+        put
     }
 
     /// Inserts a piece's record at a time, and appends what leaves. The piece's key has this hash, and the record has this

@@ -10,6 +10,7 @@ use crate::proved::foyer_raw::ticket::{Answer, Waiter};
 use crate::proved::foyer_core::{Finder, TagFinder};
 use crate::proved::foyer_policy::{Error, EventListener, Eviction, Key, Properties, Reason, Result, Value};
 use crate::rattle_std::futures::Future;
+use crate::rattle_std::futures::channel::oneshot::Canceled;
 use crate::rattle_std::futures::task::{Context, Poll};
 use crate::rattle_std::fmt::{self, Debug};
 use crate::rattle_std::sync::Wait;
@@ -52,6 +53,44 @@ where
     ) -> Self {
         RawWait {
             open: Some((shares, waiter)),
+        }
+    }
+
+    // Returns the result if it came already, and else the wait unchanged.
+    #[inline]
+    pub(crate) fn try_now(
+        mut self,
+    ) -> crate::rattle_std::result::Result<
+        Result<Option<RawCacheEntry<H, E, K, V, S, P, W, A, L, Q, R, I>>>,
+        Self,
+    > {
+        let Some((shares, mut waiter)) = self.open.take() else {
+            return Ok(Err(Error::new(Reason::Spent)));
+        };
+        match waiter.try_recv() {
+            Ok(Some(answer)) => Ok(Self::entry_of(shares, Ok(answer))),
+            Ok(None) => {
+                self.open = Some((shares, waiter));
+                Err(self)
+            }
+            Err(canceled) => Ok(Self::entry_of(shares, Err(canceled))),
+        }
+    }
+
+    // The entry of what came through the channel, if one did.
+    #[inline]
+    fn entry_of(
+        shares: Shares<H, E, K, V, S, P, W, A, L, Q, R, I>,
+        received: crate::rattle_std::result::Result<Result<Answer<K, V, P>>, Canceled>,
+    ) -> Result<Option<RawCacheEntry<H, E, K, V, S, P, W, A, L, Q, R, I>>> {
+        match received {
+            Ok(Ok(Some(ticket))) => match ticket.into_core() {
+                Some(core) => Ok(Some(shares.entry(core))),
+                None => Ok(None),
+            },
+            Ok(Ok(None)) => Ok(None),
+            Ok(Err(error)) => Err(error),
+            Err(_) => Err(Error::new(Reason::ChannelClosed)),
         }
     }
 }
@@ -110,16 +149,7 @@ where
             self.open = Some((shares, waiter));
             return Poll::Pending;
         };
-        let answer = match received {
-            Ok(Ok(Some(ticket))) => match ticket.into_core() {
-                Some(core) => Ok(Some(shares.entry(core))),
-                None => Ok(None),
-            },
-            Ok(Ok(None)) => Ok(None),
-            Ok(Err(error)) => Err(error),
-            Err(_) => Err(Error::new(Reason::ChannelClosed)),
-        };
-        Poll::Ready(answer)
+        Poll::Ready(Self::entry_of(shares, received))
     }
 }
 
