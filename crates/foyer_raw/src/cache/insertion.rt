@@ -11,9 +11,7 @@ use crate::fetch::FetchTypes;
 use crate::leaves::Leaves;
 use crate::pipe::Pipe;
 use crate::shares::Shares;
-use foyer_core::{
-    CoreEntry, Filter, Finder, InsertedOnto, Leave, Piece, PutOnto, Share, Weighter,
-};
+use foyer_core::{CoreEntry, Filter, Finder, InsertedOnto, Leave, Piece, PutOnto, Share, Weighter};
 use foyer_policy::{
     Error, EventListener, Eviction, HashBuilder, Key, Properties, Reason, Result, Source, Value,
 };

@@ -30,7 +30,11 @@ where
     pub(super) fn is_open(&self) -> bool {
         let fetch = self.fetch;
         match &self.key {
-            Some(key) => self.shares.shared.shards.is_open(fetch.hashed(key), fetch.id),
+            Some(key) => self
+                .shares
+                .shared
+                .shards
+                .is_open(fetch.hashed(key), fetch.id),
             None => false,
         }
     }
