@@ -1,6 +1,7 @@
 //! A cache of any of the five policies.
 
 ghost use Rattle.std.specs.Prelude.{◌≡◌, ◌↔◌, IfErr, IfOk, IsOk, None};
+ghost use Rattle.std.specs.Arc.{arc_value};
 ghost use Rattle.foyer_policy.specs.declared.eviction_config.EvictionConfig.TheVariants.{Lru};
 
 use crate::builder::CacheBuilder;
@@ -125,6 +126,7 @@ where
     /// F7 if a reference count is full.
     pub fn try_clone(&self) -> Result<Self>
         ensures kind { IfOk result (λ again. again.kind ≡ self.now.kind) }
+        ensures shared { IfOk result (λ again. arc_value again.cache.shares.shared ≡ arc_value self.now.cache.shares.shared) }
     {
         Ok(Cache {
             cache: self.cache.try_clone()?,
@@ -137,6 +139,7 @@ where
     /// Those made before keep the pipe that they had.
     pub fn with_pipe(self, pipe: Arc<Q>) -> Self
         ensures kind { result.kind ≡ self.kind }
+        ensures shared { result.cache.shares.shared ≡ self.cache.shares.shared }
     {
         let Cache { cache, kind } = self;
         Cache {
@@ -182,7 +185,9 @@ where
     }
 
     /// Returns the hash builder of the keys.
-    pub fn hash_builder(&self) -> &Arc<S> {
+    pub fn hash_builder(&self) -> &Arc<S>
+        ensures { result.now ≡ (arc_value (arc_value self.now.cache.shares.shared).shared).hash_builder }
+    {
         self.cache.hash_builder()
     }
 }

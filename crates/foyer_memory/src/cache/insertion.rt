@@ -1,6 +1,7 @@
 //! Inserts.
 
 ghost use Rattle.std.specs.Prelude.{◌≡◌, IfOk, true};
+ghost use Rattle.std.specs.Arc.{arc_value};
 
 use super::Cache;
 use crate::entry::CacheEntry;
@@ -35,6 +36,8 @@ where
     ) -> Result<CacheEntry<H, K, V, S, P, W, A, L, Q, T, I>>
         requires clones { (k c : K) → K.is_clone k c → K.eq c k ≡ true }
         ensures entry { IfOk result (λ e. (e.entry.kept.key ≡ key) × (e.entry.kept.value ≡ value)) }
+        ensures hash { IfOk result (λ e. e.entry.kept.hash ≡ S.hash_of (arc_value (arc_value (arc_value self.now.cache.shares.shared).shared).hash_builder) (K.hash_input key)) }
+        ensures weight { IfOk result (λ e. W.weighs (arc_value (arc_value self.now.cache.shares.shared).shared).rules.weighter key value e.entry.kept.weight) }
         ensures kind { IfOk result (λ e. e.kind ≡ self.now.kind) }
     {
         Ok(CacheEntry {
@@ -61,6 +64,8 @@ where
     ) -> Result<CacheEntry<H, K, V, S, P, W, A, L, Q, T, I>>
         requires clones { (k c : K) → K.is_clone k c → K.eq c k ≡ true }
         ensures entry { IfOk result (λ e. (e.entry.kept.key ≡ key) × (e.entry.kept.value ≡ value)) }
+        ensures hash { IfOk result (λ e. e.entry.kept.hash ≡ S.hash_of (arc_value (arc_value (arc_value self.now.cache.shares.shared).shared).hash_builder) (K.hash_input key)) }
+        ensures weight { IfOk result (λ e. W.weighs (arc_value (arc_value self.now.cache.shares.shared).shared).rules.weighter key value e.entry.kept.weight) }
         ensures kind { IfOk result (λ e. e.kind ≡ self.now.kind) }
     {
         Ok(CacheEntry {

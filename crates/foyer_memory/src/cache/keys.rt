@@ -1,6 +1,7 @@
 //! Look-ups by a key.
 
 ghost use Rattle.std.specs.Prelude.{◌≡◌, IfOk, IfSome, false, true};
+ghost use Rattle.std.specs.Arc.{arc_value};
 ghost use Rattle.std.specs.Fn.{FnOnceReturnsAt};
 ghost use Rattle.foyer_policy.specs.Moments.{is_expired};
 ghost use Rattle.foyer_core.specs.NoEntry.{SeesLive};
@@ -26,8 +27,10 @@ where
     Q: Pipe<Key = K, Value = V, Properties = P>,
     T: FetchTypes<K, V, P>,
 {
-    /// Returns the hash of a key. Equal keys have equal hashes.
-    pub fn hash(&self, key: &K) -> u64 {
+    /// Returns the hash of a key, as the hash builder makes it. Equal keys have equal hashes.
+    pub fn hash(&self, key: &K) -> u64
+        ensures { result ≡ S.hash_of (arc_value (arc_value (arc_value self.now.cache.shares.shared).shared).hash_builder) (K.hash_input key.now) }
+    {
         self.cache.hash(key)
     }
 
