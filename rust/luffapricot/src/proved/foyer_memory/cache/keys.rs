@@ -22,7 +22,7 @@ where
     Q: Pipe<Key = K, Value = V, Properties = P>,
     T: FetchTypes<K, V, P>,
 {
-    /// Returns the hash of a key. Equal keys have equal hashes.
+    /// Returns the hash of a key, as the hash builder makes it. Equal keys have equal hashes.
     #[inline]
     pub fn hash(&self, key: &K) -> u64 {
         self.cache.hash(key)
