@@ -8,6 +8,7 @@ the wheel is for CPython 3.10 and all later ones, and calls of `cached` function
 from __future__ import annotations
 
 import base64
+import gzip
 import hashlib
 import io
 import os
@@ -111,11 +112,13 @@ def build_sdist(sdist_directory: str, config_settings: dict | None = None) -> st
     files = {str(it.relative_to(HERE)): it.read_bytes() for pattern in SOURCES for it in sorted(HERE.glob(pattern))}
     files |= {f"native/{it}": (out / it).read_bytes() for it in NATIVE}
     files |= {"LICENSE": licence(), "PKG-INFO": metadata()}
-    with tarfile.open(Path(sdist_directory) / f"{top}.tar.gz", "w:gz", format=tarfile.PAX_FORMAT) as file:
+    made = io.BytesIO()
+    with tarfile.open(fileobj=made, mode="w", format=tarfile.PAX_FORMAT) as file:
         for name, data in files.items():
             about = tarfile.TarInfo(f"{top}/{name}")
             about.size = len(data)
             file.addfile(about, io.BytesIO(data))
+    (Path(sdist_directory) / f"{top}.tar.gz").write_bytes(gzip.compress(made.getvalue(), mtime=0))
     return f"{top}.tar.gz"
 
 

@@ -64,17 +64,6 @@ static PyObject *run(const cached_object *self, const arguments *given) {
 #endif
 }
 
-/* Keeps what the function returned, unless a call of the same arguments did so meanwhile. Returns 0, or -1 and an
- * exception. */
-static int keep(cache_object *cache, node *it, PyObject *value) {
-    uint64_t now;
-    if (read_time(cache, &now) < 0)
-        return -1;
-    if (it->records > 0 && is_there(cache, it, now))
-        return 0;
-    return put(cache, it, value, 1, now, cache->ttl);
-}
-
 /* Calls the function for a missing key, and keeps what it returns. */
 static PyObject *make(const cached_object *self, PyObject *key, Py_hash_t hash, node *it, const arguments *given) {
     cache_object *cache = self->cache;
@@ -86,7 +75,7 @@ static PyObject *make(const cached_object *self, PyObject *key, Py_hash_t hash, 
     if (it == NULL)
         return NULL;
     PyObject *value = run(self, given);
-    if (value != NULL && cache->cache != NULL && keep(cache, it, value) < 0)
+    if (value != NULL && cache->cache != NULL && keep(cache, it, value, 1) < 0)
         Py_CLEAR(value);
     done_with(cache, it);
     return value;

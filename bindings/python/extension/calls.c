@@ -151,14 +151,22 @@ static PyObject *cache_pop(cache_object *self, PyObject *const *args, Py_ssize_t
 
 static PyObject *cache_setdefault(cache_object *self, PyObject *const *args, Py_ssize_t count, PyObject *words) {
     PyObject *found[2];
+    uint64_t now;
+    size_t weight;
     if (read_words("setdefault", KEY_AND_DEFAULT, 1, 2, args, count, words, found) < 0)
         return NULL;
-    PyObject *value = look_up(self, found[0]);
-    if (value != NULL || PyErr_Occurred())
-        return value;
-    value = or_default(NULL, found[1]);
-    if (insert(self, found[0], value, NULL, self->ttl) < 0)
-        Py_CLEAR(value);
+    node *it = read_time(self, &now) < 0 ? NULL : use_node(self, found[0]);
+    if (it == NULL)
+        return NULL;
+    PyObject *value = touch(self, it, now), *other = found[1] == NULL ? Py_None : found[1];
+    if (value == NULL && !PyErr_Occurred()) {
+        self->misses++;
+        if (weigh(self, found[0], other, &weight) == 0 && keep(self, it, other, weight) == 0) {
+            value = it->value;
+            Py_INCREF(value);
+        }
+    }
+    done_with(self, it);
     return value;
 }
 

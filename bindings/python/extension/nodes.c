@@ -157,3 +157,14 @@ int put(cache_object *self, node *it, PyObject *value, size_t weight, uint64_t n
     Py_XDECREF(old);
     return 0;
 }
+
+/* Inserts a value that was made for a missing key, unless the key was inserted meanwhile. Returns 0, or -1 and an
+ * exception. */
+int keep(cache_object *self, node *it, PyObject *value, size_t weight) {
+    uint64_t now;
+    if (read_time(self, &now) < 0)
+        return -1;
+    if (it->records > 0 && is_there(self, it, now))
+        return 0;
+    return put(self, it, value, weight, now, self->ttl);
+}

@@ -67,3 +67,7 @@ class AsCachetools(unittest.TestCase):
             theirs(*args, **words)
             self.assertEqual(made[0], made[1])
             made = [[], []]
+
+
+if __name__ == "__main__":
+    unittest.main()

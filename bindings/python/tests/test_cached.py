@@ -93,7 +93,11 @@ class Decorator(unittest.TestCase):
         async def yields() -> AsyncIterator[int]:
             yield 1
 
-        for function in (waits, yields, functools.partial(waits)):
+        class Waits:
+            async def __call__(self) -> int:
+                return 1
+
+        for function in (waits, yields, functools.partial(waits), Waits()):
             with self.assertRaisesRegex(TypeError, "async"):
                 cached(function)
 

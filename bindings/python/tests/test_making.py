@@ -154,6 +154,17 @@ class Making(unittest.TestCase):
         self.assertEqual((cache.get_or_insert("a", lambda _: "made"), cache["a"]), ("newer", "newer"))
         self.assertEqual(cache.stats().usage, 2)
 
+    def test_what_is_not_inserted_is_not_weighed(self) -> None:
+        weighed: list = []
+        cache = Cache(10, weigher=lambda _, value: weighed.append(value) or 1)
+        self.assertEqual(cache.get_or_insert("a", lambda key: cache.insert(key, "newer") or "made"), "newer")
+        self.assertEqual(weighed, ["newer"])
+
+    def test_setdefault_beside_an_insert(self) -> None:
+        cache = Cache(10, weigher=lambda key, value: 1 if value != "default" else cache.insert(key, "newer", 3) or 1)
+        self.assertEqual((cache.setdefault("a", "default"), cache["a"], cache.stats().usage), ("newer", "newer", 3))
+        self.assertEqual((cache.setdefault("a"), cache.setdefault("b"), cache.stats()[:2]), ("newer", None, (2, 2)))
+
     def test_signals_end_the_wait(self) -> None:
         lines = [
             "import os, signal, threading, luffapricot",

@@ -111,6 +111,8 @@ class Mapping(unittest.TestCase):
             lambda cache, key: key in cache,
             lambda cache, key: cache.pop(key, None),
             lambda cache, key: cache.peek(key),
+            lambda cache, key: cache.setdefault(key, 1),
+            lambda cache, key: cache.insert(key, 1),
             lambda cache, key: cached(5)(lambda _: 1)(key),
         ):
             cache = Cache(5, "lru")

@@ -58,6 +58,10 @@ class _Values(ValuesView):
         return value in list(self)
 
 
+def _is_async(function: object) -> bool:
+    return inspect.iscoroutinefunction(function) or inspect.isasyncgenfunction(function)
+
+
 def _made_anew(kind: type[Cache], capacity: int, parameters: tuple[Any, ...], attributes: dict[str, Any]) -> Cache:
     cache = kind.__new__(kind)
     Cache.__init__(cache, capacity, *parameters)
@@ -169,7 +173,7 @@ def cached(
     size = None if maxsize is None else max(maxsize, 0)
 
     def decorate(function: Callable[..., T]) -> _Cached[T]:
-        if inspect.iscoroutinefunction(function) or inspect.isasyncgenfunction(function):
+        if any(map(_is_async, (function, getattr(type(function), "__call__", None)))):
             raise TypeError("cached() is for functions that return their result, and not for async ones")
         cache: Cache[Any, T] = Cache(sys.maxsize if size is None else size, policy, shards, ttl, timer=timer)
         parameters = {"maxsize": size, "typed": typed, "policy": policy, "ttl": ttl}
