@@ -147,6 +147,9 @@ class Installs(Room):
         about = common.read(f"{folder}/BUILD.txt")
         if not re.search(rf"(?m)^library: {'' if self.is_proved else 'un'}proved$", about) or not re.search("(?m)^commit: ", about):
             raise RuntimeError(f"BUILD.txt says\n{about}")
+        here = "cp%d%d" % sys.version_info[:2]
+        wanted = {f"{here}-{here}", *(["cp310-abi3"] if sys.version_info >= (3, 10) else [])}
+        self.same({re.search(r"-(cp\d+-\w+)-linux", it)[1] for it in glob.glob(f"{folder}/python/*.whl")}, wanted)
         self._follow_page(folder, clean)
         self._use_prefix(folder)
         self._use_package(folder, clean)

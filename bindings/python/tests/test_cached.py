@@ -18,6 +18,14 @@ def named(number: int) -> int:
     return number
 
 
+class Named:
+    @staticmethod
+    @cached
+    def inside(number: int) -> int:
+        """A function that a pickle finds in its class."""
+        return number
+
+
 class Decorator(unittest.TestCase):
     def test_as_lru_cache(self) -> None:
         random.seed(2)
@@ -56,7 +64,8 @@ class Decorator(unittest.TestCase):
         self.assertEqual(unlimited.cache_info(), (0, 5000, None, 5000))
 
     def test_copies(self) -> None:
-        self.assertEqual([pickle.loads(pickle.dumps(named)), copy.copy(named), copy.deepcopy([named])[0]], [named] * 3)
+        for it in (named, Named.inside):
+            self.assertEqual([pickle.loads(pickle.dumps(it)), copy.copy(it), copy.deepcopy([it])[0]], [it] * 3)
 
     def test_methods_and_exceptions(self) -> None:
         class Counter:
@@ -100,6 +109,7 @@ class Decorator(unittest.TestCase):
         for function in (waits, yields, functools.partial(waits), Waits()):
             with self.assertRaisesRegex(TypeError, "async"):
                 cached(function)
+        self.assertIsInstance(cached(Waits)(), Waits)  # to make one isn't async
 
     def test_policy_and_timer(self) -> None:
         time_now = [1]

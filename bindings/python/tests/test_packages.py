@@ -67,6 +67,7 @@ class Packages(unittest.TestCase):
             text = file.read(f"{backend.INFO}/METADATA").decode()
             record = file.read(f"{backend.INFO}/RECORD").decode()
             self.assertEqual(len(record.splitlines()), len(file.namelist()))
+            self.assertIn(b"Apache License", file.read(f"{backend.INFO}/LICENSE"))
         for line in ("License: Apache-2.0", "Requires-Python: >=3.9", "# luffapricot: a cache of Python objects"):
             self.assertIn(f"{line}\n", text)
         self.assertEqual(self.install(name), "5\n")
