@@ -16,6 +16,11 @@ from typing import Callable
 
 from luffapricot import cached
 
+try:
+    import cachetools
+except ImportError:
+    cachetools = None
+
 CAPACITY, KEYS, TURNS, PAIRS = 1000, 500, 40, 25
 POLICIES = ("fifo", "lru", "lfu", "s3fifo", "sieve")
 BASE = "functools.lru_cache"
@@ -30,12 +35,8 @@ def decorators(capacity: int = CAPACITY) -> dict[str, Callable]:
     """What is compared, by name."""
     made: dict[str, Callable] = {BASE: functools.lru_cache(capacity)}
     made |= {policy: cached(capacity, policy=policy) for policy in POLICIES}
-    try:
-        import cachetools
-
+    if cachetools is not None:
         made["cachetools.LRUCache"] = cachetools.cached(cachetools.LRUCache(capacity))
-    except ImportError:
-        print("cachetools is not installed", file=sys.stderr)
     return made
 
 

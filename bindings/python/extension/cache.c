@@ -113,6 +113,7 @@ static void cache_dealloc(cache_object *self) {
     PyObject_GC_UnTrack(self);
     cache_gc_clear(self);
     PyMem_Free(self->table.places);
+    PyMem_Free(self->spare);
     ((freefunc)PyType_GetSlot(type, Py_tp_free))(self);
     Py_DECREF(type);
 }

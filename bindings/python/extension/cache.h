@@ -72,6 +72,7 @@ typedef struct {
     table table;
     chain list;     /* of the nodes with a record: by insert, for LRU by use */
     node *left;     /* nodes that are out of the table, to be given back */
+    node *spare;    /* memory for the next node, or NULL */
     fetch *fetches; /* the open ones */
     module_state *state;
     PyObject *weigher; /* or NULL */
@@ -129,7 +130,7 @@ int free_records(cache_object *self);
 
 /* reading.c: arguments, times and refusals. */
 PyObject *refused(const cache_object *self, luffa_status status);
-int is_closed(const cache_object *self);
+int set_closed(void);
 int ask_time(cache_object *self, uint64_t *now);
 int read_size(PyObject *number, size_t *size);
 int read_ttl(PyObject *seconds, uint64_t *ttl);
@@ -137,6 +138,9 @@ int read_policy(const char *name, PyObject *changes, luffa_config *made);
 int read_words(const char *call, const char *const *names, Py_ssize_t least, Py_ssize_t most, PyObject *const *args,
                Py_ssize_t count, PyObject *words, PyObject **found);
 int weigh(const cache_object *self, PyObject *key, PyObject *value, size_t *weight);
+
+/* Whether a cache is closed; then there is an exception. */
+static inline int is_closed(const cache_object *self) { return self->cache == NULL && set_closed(); }
 
 /* The first place where the node of a hash may be. */
 static inline size_t place_of(const table *self, Py_hash_t hash) {

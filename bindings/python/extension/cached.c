@@ -92,7 +92,9 @@ static PyObject *answer(const cached_object *self, PyObject *key, const argument
     Py_hash_t hash = PyObject_Hash(key);
     if (hash == -1 || read_time(cache, &now) < 0 || find(cache, key, hash, &it) < 0 || is_closed(cache))
         return NULL;
-    PyObject *value = it == NULL ? NULL : touch(cache, it, now);
+    if (it == NULL)
+        return make(self, key, hash, it, given);
+    PyObject *value = touch(cache, it, now);
     return value != NULL || PyErr_Occurred() ? value : make(self, key, hash, it, given);
 }
 

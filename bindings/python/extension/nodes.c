@@ -35,20 +35,32 @@ static void leave(cache_object *self, node *it) {
     self->left = it;
 }
 
-/* Gives back the nodes that left. It may run Python code, and keeps an exception. */
-void give_back(cache_object *self) {
-    if (self->left == NULL)
-        return;
-    PyObject *type, *value, *trace;
-    PyErr_Fetch(&type, &value, &trace);
+/* Gives back the nodes that left, of which one is kept for the next key. It may run Python code. */
+static void give_back_all(cache_object *self) {
     while (self->left != NULL) {
         node *it = self->left;
         PyObject *its_key = it->key, *its_value = it->value;
         self->left = (node *)it->chain.next;
-        PyMem_Free(it);
+        if (self->spare == NULL)
+            self->spare = it;
+        else
+            PyMem_Free(it);
         Py_DECREF(its_key);
         Py_XDECREF(its_value);
     }
+}
+
+/* Gives back the nodes that left. It may run Python code, and keeps an exception. */
+void give_back(cache_object *self) {
+    PyObject *type, *value, *trace;
+    if (self->left == NULL)
+        return;
+    if (PyErr_Occurred() == NULL) {
+        give_back_all(self);
+        return;
+    }
+    PyErr_Fetch(&type, &value, &trace);
+    give_back_all(self);
     PyErr_Restore(type, value, trace);
 }
 
@@ -77,7 +89,8 @@ void done_with(cache_object *self, node *it) {
 
 /* Makes the node of a key that has none. It is used until done_with. NULL and an exception if there is no memory. */
 node *add_node(cache_object *self, PyObject *key, Py_hash_t hash) {
-    node *it = PyMem_Malloc(sizeof *it);
+    node *it = self->spare != NULL ? self->spare : PyMem_Malloc(sizeof *it);
+    self->spare = NULL;
     if (it == NULL || (*it = (node){.key = key, .hash = hash, .uses = 1}, table_add(&self->table, it)) < 0) {
         PyMem_Free(it);
         PyErr_NoMemory();

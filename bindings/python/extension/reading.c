@@ -10,10 +10,9 @@ PyObject *refused(const cache_object *self, luffa_status status) {
     return PyErr_Format(self->state->error, "%s (F%u)", luffa_strerror(status), (unsigned)status);
 }
 
-int is_closed(const cache_object *self) {
-    if (self->cache == NULL)
-        PyErr_SetString(PyExc_ValueError, "the cache is closed");
-    return self->cache == NULL;
+int set_closed(void) {
+    PyErr_SetString(PyExc_ValueError, "the cache is closed");
+    return 1;
 }
 
 /* Seconds in nanoseconds, at least 0. */

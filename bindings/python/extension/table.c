@@ -58,6 +58,14 @@ void table_remove(table *self, const node *it) {
 static int has_key(const table *self, const node *it, PyObject *key) {
     PyObject *its = it->key;
     size_t moves = self->moves;
+#ifndef Py_LIMITED_API
+    PyTypeObject *type = Py_TYPE(its);
+    if (Py_TYPE(key) == type && (type == &PyLong_Type || type == &PyUnicode_Type)) { /* which runs no Python code */
+        PyObject *answer = type->tp_richcompare(its, key, Py_EQ);
+        Py_XDECREF(answer);
+        return answer == NULL ? -1 : answer == Py_True;
+    }
+#endif
     Py_INCREF(its);
     int is_equal = PyObject_RichCompareBool(its, key, Py_EQ);
     Py_DECREF(its);
