@@ -5,6 +5,7 @@ import re
 import shutil
 import subprocess
 import sys
+import sysconfig
 import tarfile
 import tempfile
 import zipfile
@@ -166,6 +167,7 @@ class Installs(Room):
         links = re.findall(r"\]\(([^)]*)\)", page)
         self.same([it for it in links if not os.path.exists(f"{folder}/{it}")], [])
         self.same([it for it in page.splitlines() if it.startswith(("bindings/", "## With a kit"))], [])
+        self.same({*re.findall(r"luffapricot-[\d.]+-linux-x86_64", page)}, {os.path.basename(folder)})
         for it in ("program.c", "program"):
             if os.path.exists(f"{folder}/{it}"):
                 os.remove(f"{folder}/{it}")
@@ -180,6 +182,10 @@ class Installs(Room):
         pip = [python, "-m", "pip", "--disable-pip-version-check", "-q"]
         self.run(*pip, "install", "--no-index", "--find-links", f"{folder}/python", PACKAGE, env=env, cwd=clean)
         self.same(self.run(python, "program.py", env=env, cwd=clean), wanted)
+        named = {**env, "LUFFAPRICOT_OUT": folder, "PYTHONDONTWRITEBYTECODE": "1"}
+        if os.path.exists(f"{sysconfig.get_path('include')}/Python.h"):  # the sources, over the archive's library
+            self.run(*pip, "install", "--force-reinstall", "--no-index", f"{HERE}/python", env=named, cwd=clean)
+            self.same(self.run(python, "program.py", env=env, cwd=clean), wanted)
         self.run(*pip, "uninstall", "-y", PACKAGE, env=env, cwd=clean)
         if not self.fails(python, "-c", f"import {PACKAGE}", env=env, cwd=clean):
             raise RuntimeError("the package is still there")

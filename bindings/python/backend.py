@@ -1,8 +1,9 @@
 """Makes the wheel and the source distribution of this package (PEP 517). It needs a C compiler and no other package, so
 `pip install` works without a network.
 
-The extension is linked with libluffapricot.a: that of the folder LUFFAPRICOT_OUT names, or that of a source
-distribution, or else that of the repository, where ../build first compiles what has changed. With the setting abi3=yes
+The extension is linked with libluffapricot.a: that of the folder LUFFAPRICOT_OUT names (of a build, or an unpacked
+archive), or that of a source distribution, or else that of the repository, where ../build first compiles what has
+changed. With the setting abi3=yes
 the wheel is for CPython 3.10 and all later ones, and calls of `cached` functions are a little slower."""
 
 from __future__ import annotations
@@ -41,29 +42,35 @@ NAME, VERSION = field("name"), field("version")
 INFO = f"{NAME}-{VERSION}.dist-info"
 
 
-def native() -> Path:
-    """The folder of the native library and its header."""
+def native() -> dict[str, Path]:
+    """The files of the native library."""
     given, build = os.environ.get("LUFFAPRICOT_OUT"), HERE.parent / "build"
-    if given or (HERE / "native").is_dir():
-        folder = Path(given or HERE / "native")
-        if not all((folder / it).exists() for it in NATIVE):
-            raise FileNotFoundError(f"{folder} has no {' and '.join(NATIVE)}")
-        return folder
-    subprocess.run([sys.executable, build], check=True)
-    return HERE.parent / "out"
+    folder = Path(given) if given else HERE / "native"
+    if not given and not folder.is_dir():
+        subprocess.run([sys.executable, build], check=True)
+        folder = HERE.parent / "out"
+    return {name: found_in(folder, name) for name in NATIVE}
+
+
+def found_in(folder: Path, name: str) -> Path:
+    """A file of the folder of a build, or of an unpacked archive or another prefix."""
+    for it in (folder / name, folder / "lib" / name, folder / "include" / name):
+        if it.exists():
+            return it
+    raise FileNotFoundError(f"{folder.absolute()} has no {name}")
 
 
 def compile_extension(folder: Path, is_limited: bool) -> Path:
     """Compiles the extension, and returns its file."""
-    out = native()
+    library, header = native().values()
     made = folder / f"_{NAME}{'.abi3.so' if is_limited else sysconfig.get_config_var('EXT_SUFFIX')}"
     compiler = shlex.split(os.environ.get("CC", "cc"))
     flags = ["-std=gnu11", "-O2", "-Wall", "-Wextra", "-fPIC", "-shared", "-pthread", "-fvisibility=hidden"]
     flags += [f"-DPy_LIMITED_API={LIMITED}"] if is_limited else []
     flags += shlex.split(os.environ.get("CFLAGS", ""))
-    paths = [f"-I{sysconfig.get_path('include')}", f"-I{out}"]
+    paths = [f"-I{sysconfig.get_path('include')}", f"-I{header.parent}"]
     sources = sorted((HERE / "extension").glob("*.c"))
-    subprocess.run([*compiler, *flags, *paths, *sources, out / NATIVE[0], "-o", made], check=True)
+    subprocess.run([*compiler, *flags, *paths, *sources, library, "-o", made], check=True)
     return made
 
 
@@ -108,9 +115,9 @@ def build_wheel(wheel_directory: str, config_settings: dict | None = None, metad
 
 def build_sdist(sdist_directory: str, config_settings: dict | None = None) -> str:
     """The call that pip makes for a source distribution, which has the native library too: nobody needs the kit."""
-    top, out = f"{NAME}-{VERSION}", native()
+    top = f"{NAME}-{VERSION}"
     files = {str(it.relative_to(HERE)): it.read_bytes() for pattern in SOURCES for it in sorted(HERE.glob(pattern))}
-    files |= {f"native/{it}": (out / it).read_bytes() for it in NATIVE}
+    files |= {f"native/{name}": path.read_bytes() for name, path in native().items()}
     files |= {"LICENSE": licence(), "PKG-INFO": metadata()}
     made = io.BytesIO()
     with tarfile.open(fileobj=made, mode="w", format=tarfile.PAX_FORMAT) as file:

@@ -14,6 +14,8 @@ import zipfile
 from pathlib import Path
 from types import ModuleType
 
+import luffapricot
+
 HERE = Path(__file__).resolve().parents[1]
 PROGRAM = "import luffapricot; cache = luffapricot.Cache(5); cache.update(zip(range(9), range(9))); print(len(cache))"
 PIP = [sys.executable, "-m", "pip", "--disable-pip-version-check", "install", "-q", "--no-deps", "--no-index", "--target"]
@@ -50,6 +52,9 @@ class Packages(unittest.TestCase):
             if it.is_file() and it.name != "direct_url.json":
                 self.assertNotIn(str(HERE.parents[1]).encode(), it.read_bytes(), it)
         return run(sys.executable, "-c", PROGRAM, cwd=self.folder, env=env)
+
+    def test_versions(self) -> None:
+        self.assertEqual(luffapricot.version.split()[0], backend_of(HERE).VERSION)
 
     def test_source_distribution(self) -> None:
         name = backend_of(HERE).build_sdist(str(self.folder))
