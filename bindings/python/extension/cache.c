@@ -97,7 +97,7 @@ int free_records(cache_object *self) {
     luffa_cache *cache = self->cache;
     self->cache = NULL;
     luffa_destroy(cache);
-    give_back(self);
+    lose_all(self);
     return 0;
 }
 

@@ -101,6 +101,7 @@ node *add_node(cache_object *self, PyObject *key, Py_hash_t hash);
 node *use_node(cache_object *self, PyObject *key);
 void done_with(cache_object *self, node *it);
 void give_back(cache_object *self);
+void lose_all(cache_object *self);
 uint64_t hash_node(void *context, const void *key, size_t key_len);
 void hear(void *context, int event, const void *key, size_t key_len, const void *value, size_t value_len);
 PyObject *touch(cache_object *self, node *it, uint64_t now);

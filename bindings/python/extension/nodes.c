@@ -64,20 +64,31 @@ void give_back(cache_object *self) {
     PyErr_Restore(type, value, trace);
 }
 
+/* The last record of a node left. */
+static void lose_records(cache_object *self, node *it) {
+    it->records = 0;
+    unlink_node(it);
+    if (it->uses == 0)
+        leave(self, it);
+}
+
 /* A record of a node left. No Python code runs here. */
 void hear(void *context, int event, const void *key, size_t key_len, const void *value, size_t value_len) {
-    cache_object *self = context;
     node *it;
     (void)event;
     (void)key_len;
     (void)value;
     (void)value_len;
     memcpy(&it, key, sizeof it);
-    if (--it->records > 0)
-        return;
-    unlink_node(it);
-    if (it->uses == 0)
-        leave(self, it);
+    if (--it->records == 0)
+        lose_records(context, it);
+}
+
+/* The cache ended. Without memory it didn't tell of its records. */
+void lose_all(cache_object *self) {
+    while (self->list.next != &self->list)
+        lose_records(self, (node *)self->list.next);
+    give_back(self);
 }
 
 /* A call is done with a node. */
