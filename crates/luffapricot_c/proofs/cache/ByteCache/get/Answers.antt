@@ -1,23 +1,12 @@
-use Rattle.std.proofs.Common.{◌∙◌, refl}
+use Rattle.std.proofs.Common.{ap, inr, refl, rules}
+use Rattle.luffapricot_c.proofs.CallLemmas.{read_full, read_missing, read_seen}
 use Rattle.luffapricot_c.proofs.cache.ByteCache.get.Goals as goal
 
-pub returns-in-Ok-Some : goal.returns-in-Ok-Some
-returns-in-Ok-Some c = record {
+pub returns-in-Seen : goal.returns-in-Seen
+returns-in-Seen c = record {
   own = c.set.new.self;
   own_is = (c.in_ok-set.ensures.hash, c.in_ok-set.ensures.bytes);
-  entry = c.in-Ok-Some.entry;
-  mid = record c.args.self.now { core = c.get.new.self; asked = c.set.new.self };
-  gets = rw c.in-Ok-Some.field-0-is at c.in-Ok-Some.ensures.gets;
-  ends = (
-    c.drop_entry.result,
-    record { owned = c.drop_entry.ensures.owned; foreign = c.drop_entry.ensures.foreign },
-  );
-  len_is = c.copy_value-len.ensures.len;
-  filled_is = c.copy_value-len.ensures.copied;
-  rest = record {
-    held = refl;
-    fetches = c.drop_entry.ensures.fetches ∙ c.in-Ok-Some.ensures.fetches;
-    left = refl;
-    listener = refl;
-  };
+  reads = read_seen c.args.now c.set.new.self _ _ _ c.in-Seen.len c.args.out.now _ c.args.self.now
+      (record c.args.self.now { core = c.read_with-read.new.self }) (λ v h. search rules) c.in-Seen.ensures.reads;
+  rest = record { held = refl; fetches = c.in-Seen.ensures.fetches; left = refl; listener = refl };
 }
