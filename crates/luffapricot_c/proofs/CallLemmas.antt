@@ -3,22 +3,23 @@ use Rattle.std.proofs.Common.{◌≡◌, ◌∙◌, ◌++◌, ◌∷◌, ℕ, Li
 use Rattle.std.specs.Prelude.{IsSomeAnd, slice_index_or}
 use Rattle.slab.specs.Slab.{Slab}
 use Rattle.foyer_policy.specs.declared.error.Reason.{Reason}
-use Rattle.foyer_policy.specs.declared.error.Reason.TheVariants.{Handles}
 use Rattle.foyer_core.specs.declared.outcome.InsertedOnto.{InsertedOnto}
-use Rattle.foyer_core.specs.declared.outcome.Read.TheVariants.{Full, Missing, Seen}
 use Rattle.foyer_core.specs.CallLaws.{AnswersIn}
 use Rattle.foyer_core.specs.Core.{AtShard, shard_at}
 use Rattle.foyer_core.specs.Cores.{core_of, fetches_of, hashes_of, meaning_of_core}
-use Rattle.foyer_core.specs.NoEntry.{Peeks, ReadsWith}
+use Rattle.foyer_core.specs.NoEntry.{Peeks}
+use Rattle.foyer_core.specs.Steps.{Touches}
+use Rattle.foyer_core.proofs.CoreLaws.{now_here}
 use Rattle.foyer_core.specs.Values.{Answered, Held}
 use Rattle.luffapricot_c.specs.declared.cache.ByteCache.{ByteCache}
 use Rattle.luffapricot_c.specs.declared.hold.Hold.{Hold}
 use Rattle.luffapricot_c.specs.declared.key.Key.{Key}
 use Rattle.luffapricot_c.specs.declared.record.LuffaRecord.{LuffaRecord}
 use Rattle.luffapricot_c.specs.declared.value.Value.{Value}
-use Rattle.luffapricot_c.specs.Calls.{AnswersWaiting, CoreInserts, HoldsEntry, IfTaken, InsertsBytes, CorePeeks, CoreReads}
+use Rattle.luffapricot_c.specs.Calls.{AnswersWaiting, CoreInserts, HoldsEntry, IfTaken, InsertsBytes, CorePeeks, CoreReads, CoreTouches}
 use Rattle.luffapricot_c.specs.Bytes.{CopiesValue}
 use Rattle.luffapricot_c.specs.Frames.{Frames}
+use Rattle.luffapricot_c.proofs.TouchLemmas.{touched_hits, touched_sees}
 
 -- what the core says of those who wait
 pub answers_waiting : (own : Key) (result : Result (InsertedOnto Key Value Answered ℕ) Reason) (old new : ByteCache) →
@@ -28,29 +29,6 @@ pub answers_waiting : (own : Key) (result : Result (InsertedOnto Key Value Answe
     (λ _. fetches_of new.core ≡ fetches_of old.core) → AnswersWaiting own result old new
 answers_waiting own (Ok made) old new a = a
 answers_waiting own (Err reason) old new a = a
-
--- a read that lent a buffer, whose value was copied
-pub read_seen : {O T : Type 0} (now : ℕ) (k : Key) (sees : Value → T → Type 0) (lent : O) (t : T) (len : ℕ)
-    (out filled : List ℕ) (old new : ByteCache) → ((v : Value) → sees v t → CopiesValue out filled v len)
-    → AtShard (λ s u. ReadsWith (meaning_of_core old.core) now s (hashes_of old.core k, k) lent sees (Seen t) u)
-    (hashes_of old.core k) (core_of old.core) (core_of new.core)
-    → CoreReads now k (CopiesValue out filled) (Ok (Some len)) old new
-read_seen now k sees lent t len out filled old new so at = record {
-  before = at.before;
-  after = at.after;
-  there = at.there;
-  stepped = record {
-    touches = at.stepped.touches;
-    seen = record {
-      id = at.stepped.seen.id;
-      rec = at.stepped.seen.rec;
-      hits = at.stepped.seen.hits;
-      there = at.stepped.seen.there;
-      made = so at.stepped.seen.rec.kept.value at.stepped.seen.made;
-    };
-  };
-  rest = at.rest;
-}
 
 -- a look that saw a value, which was copied
 pub peek_seen : (now : ℕ) (k : Key) (v : Value) (len : ℕ) (out filled : List ℕ) (c : ByteCache) →
@@ -70,33 +48,62 @@ peek_seen now k v len out filled c copies = go (shard_at (core_of c.core) (hashe
   }
   go None h = absurd h
 
--- a read that found nothing
-pub read_missing : {O T : Type 0} (now : ℕ) (k : Key) (sees : Value → T → Type 0) (lent o : O) (out filled : List ℕ)
-    (old new : ByteCache)
-    → AtShard (λ s u. ReadsWith (meaning_of_core old.core) now s (hashes_of old.core k, k) lent sees (Missing o) u)
-    (hashes_of old.core k) (core_of old.core) (core_of new.core)
-    → CoreReads now k (CopiesValue out filled) (Ok None) old new
-read_missing now k sees lent o out filled old new at = record {
+-- a touch that found nothing is a read that did
+pub read_missing : {T : Type 0} (now : ℕ) (k : Key) (sees : Value → T → Type 0) (old new : ByteCache) →
+    CoreTouches now k (Ok false) old new → CoreReads now k sees (Ok None) old new
+read_missing now k sees old new at = record {
   before = at.before;
   after = at.after;
   there = at.there;
-  stepped = record { touches = at.stepped.touches; seen = tt };
+  stepped = record { touches = at.stepped; seen = tt };
   rest = at.rest;
 }
 
 -- and one that was refused
-pub read_full : {O T : Type 0} (now : ℕ) (k : Key) (sees : Value → T → Type 0) (lent o : O) (out filled : List ℕ)
-    (old new : ByteCache)
-    → AtShard (λ s u. ReadsWith (meaning_of_core old.core) now s (hashes_of old.core k, k) lent sees (Full o) u)
-    (hashes_of old.core k) (core_of old.core) (core_of new.core)
-    → CoreReads now k (CopiesValue out filled) (Err Handles) old new
-read_full now k sees lent o out filled old new at = record {
+pub read_refused : {T : Type 0} (now : ℕ) (k : Key) (sees : Value → T → Type 0) (reason : Reason) (old new : ByteCache) →
+    CoreTouches now k (Err reason) old new → CoreReads now k sees (Err reason) old new
+read_refused now k sees reason old new at = record {
   before = at.before;
   after = at.after;
   there = at.there;
-  stepped = record { touches = at.stepped.touches; seen = tt };
+  stepped = record { touches = at.stepped; seen = tt };
   rest = at.rest;
 }
+
+-- the shard that was touched
+now_touched : (now : ℕ) (k : Key) (old new : ByteCache) (at : CoreTouches now k (Ok true) old new) →
+    shard_at (core_of new.core) (hashes_of new.core k) ≡ Some at.after
+now_touched now k old new at = now_here (core_of old.core) (core_of new.core)
+    (λ s t. Touches (meaning_of_core old.core) now s (hashes_of old.core k, k) (Ok true) t) (hashes_of old.core k) at
+    (hashes_of old.core k) refl
+
+-- a touch and a look that saw a value, which was copied, are a read
+pub read_seen : (now : ℕ) (k : Key) (v : Value) (len : ℕ) (out filled : List ℕ) (old new : ByteCache) →
+    CopiesValue out filled v len → CoreTouches now k (Ok true) old new →
+    CorePeeks now k (λ w seen. seen ≡ w) (Some v) new → CoreReads now k (CopiesValue out filled) (Ok (Some len)) old new
+read_seen now k v len out filled old new copies at looks =
+    let peeks : CorePeeks now k (CopiesValue out filled) (Some len) new = peek_seen now k v len out filled new copies looks in
+    record {
+      before = at.before;
+      after = at.after;
+      there = at.there;
+      stepped = record {
+        touches = at.stepped;
+        seen = touched_sees (meaning_of_core old.core) now at.before (hashes_of old.core k, k) at.after
+            (CopiesValue out filled) len at.stepped
+            (subst (λ o. IsSomeAnd o (λ s. Peeks (meaning_of_core new.core) now s (hashes_of new.core k, k)
+            (CopiesValue out filled) (Some len))) (now_touched now k old new at) peeks);
+      };
+      rest = at.rest;
+    }
+
+-- a touch and a look that found nothing don't go together
+pub touched_is_there : {A : Type 0} (now : ℕ) (k : Key) (old new : ByteCache) → CoreTouches now k (Ok true) old new →
+    CorePeeks {T = Value} now k (λ w seen. seen ≡ w) None new → A
+touched_is_there {A} now k old new at looks = touched_hits (meaning_of_core old.core) {A = A} now at.before
+    (hashes_of old.core k, k) at.after (λ (w seen : Value). seen ≡ w) at.stepped
+    (subst (λ o. IsSomeAnd o (λ s. Peeks (meaning_of_core new.core) now s (hashes_of new.core k, k)
+    (λ (w seen : Value). seen ≡ w) None)) (now_touched now k old new at) looks)
 
 -- an insert with the core's answer
 pub inserts_bytes : (now hash : ℕ) (key bytes : List ℕ) (owner weight : ℕ) (p : Answered)

@@ -1,6 +1,6 @@
 -- What the calls for walks over the records of a cache of bytes make of it.
-use Rattle.std.specs.Prelude.{◌≡◌, ◌×◌, ℕ, Bool, true, false, [], ◌∷◌, Option, None, Some, Result, Ok, Err, IsSomeAnd, MatchOption, length, slice_get}
-use Rattle.std.specs.Vec.{Vec}
+use Rattle.std.specs.Prelude.{◌≡◌, ℕ, Bool, true, false, [], ◌∷◌, Option, None, Some, Result, Ok, Err, IsSomeAnd, MatchOption, length, slice_get}
+use Rattle.std.specs.Global.{Vec}
 use Rattle.slab.specs.Slab.{Updates, get}
 use Rattle.foyer_policy.specs.declared.error.Reason.{Reason}
 use Rattle.foyer_policy.specs.declared.types.Event.TheVariants.{Remove}

@@ -1,30 +1,29 @@
 //! The cache behind the address that C holds: of bytes by bytes, of one shard, of any of the five policies.
 
-ghost use Rattle.std.specs.Prelude.{◌≡◌, [], IfErr, IfOk, None, length};
+ghost use Rattle.std.specs.Prelude.{◌≡◌, [], IfErr, IfOk, None};
 ghost use Rattle.foyer_policy.specs.Any.{any};
 ghost use Rattle.foyer_policy.specs.Errors.{number_of};
-ghost use Rattle.luffapricot_c.specs.Bytes.{copied_into, expiry_of, plain, properties_of};
+ghost use Rattle.luffapricot_c.specs.Bytes.{expiry_of, plain, properties_of};
 ghost use Rattle.foyer_core.specs.Core.{entries_of_core, usage_of_core};
 ghost use Rattle.foyer_core.specs.Cores.{core_of, meaning_of_core};
 ghost use Rattle.luffapricot_c.specs.Opening.{IsOpened, refused_with};
-ghost use Rattle.luffapricot_c.specs.Calls.{FindsKey, GetsCopy, GetsEntry, Inserts, InsertsBytes, InsertsEntry, PeeksCopy, RemovesEntry, TouchesKey};
+ghost use Rattle.luffapricot_c.specs.Calls.{FindsKey, GetsEntry, Inserts, InsertsBytes, InsertsEntry, RemovesEntry, TouchesKey};
 
 use crate::hold::{Gone, Hold};
 use crate::key::{Key, copied};
 use crate::record::LuffaRecord;
 use crate::value::{GivenWeight, Value};
 use foyer_core::{
-    AdmitAll, CacheCore, CacheProperties, InsertedOnto, Limits, PutOnto, RawCacheConfig, Read,
+    AdmitAll, CacheCore, CacheProperties, InsertedOnto, Limits, PutOnto, RawCacheConfig,
 };
-use foyer_policy::{
-    AnyEviction, Error, Event, EvictionConfig, Hint, ModHasher, Properties, Reason, Result,
-};
+use foyer_policy::{AnyEviction, Event, EvictionConfig, Hint, ModHasher, Properties, Result};
 use slab::Slab;
 use std::alloc::Global;
 
 mod bulk;
 mod fetches;
 mod holds;
+mod reads;
 mod walks;
 
 use holds::{answer, forget_left, hold};
@@ -227,48 +226,6 @@ impl ByteCache {
         made
     }
 
-    /// Looks a record up and copies its value, or the part of it that fits. The length of the value, if there is one.
-    #[inline(always)]
-    pub(crate) fn get(
-        &mut self,
-        now: u64,
-        hash: u64,
-        key: &[u8],
-        out: &mut [u8],
-    ) -> Result<Option<usize>>
-        ensures { GetsCopy now hash key.now out.old result out.new self.old self.new }
-    {
-        self.asked.set(hash, key)?;
-        let read = self.core.read_with(now, &self.asked, out, |value, out| {
-            let len = copy_value(value, out);
-            (len, out)
-        });
-        match read {
-            Read::Seen((len, _out)) => Ok(Some(len)),
-            Read::Missing(_out) => Ok(None),
-            Read::Full(_out) => Err(Error::new(Reason::Handles)),
-        }
-    }
-
-    /// Copies the value of the record that a lookup would find, or the part of it that fits, and counts no use. The
-    /// length of the value, if there is one.
-    #[inline(always)]
-    pub(crate) fn peek(
-        &mut self,
-        now: u64,
-        hash: u64,
-        key: &[u8],
-        out: &mut [u8],
-    ) -> Result<Option<usize>>
-        ensures { PeeksCopy now hash key.now out.old result out.new self.old self.new }
-    {
-        self.asked.set(hash, key)?;
-        match self.core.value(now, &self.asked) {
-            Some(value) => Ok(Some(copy_value(value, out))),
-            None => Ok(None),
-        }
-    }
-
     /// Looks a record up and holds a handle to it. Whether there is one.
     #[inline(always)]
     pub(crate) fn get_entry(
@@ -347,28 +304,4 @@ fn plain_properties(expires: u64) -> CacheProperties
 {
     let expiry = if expires == 0 { None } else { Some(expires) };
     CacheProperties::default().with_expiry(expiry)
-}
-
-// Copies a value, or the part of it that fits. Returns its length.
-#[inline(always)]
-fn copy_value(value: &Value, out: &mut [u8]) -> usize
-    ensures len { result ≡ length (value.now.bytes).items }
-    ensures copied { out.new ≡ copied_into (value.now.bytes).items out.old }
-{
-    let bytes = value.bytes.as_slice();
-    copy_part(bytes, out);
-    bytes.len()
-}
-
-// Copies bytes, or the first ones that fit.
-#[inline(always)]
-fn copy_part(bytes: &[u8], out: &mut [u8])
-    ensures { out.new ≡ copied_into bytes.now out.old }
-{
-    if bytes.len() <= out.len() {
-        out[..bytes.len()].copy_from_slice(bytes);
-    } else {
-        let room = out.len();
-        out.copy_from_slice(&bytes[..room]);
-    }
 }

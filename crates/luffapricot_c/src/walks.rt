@@ -19,7 +19,7 @@ pub extern "C" fn luffa_shard_list(
     number: &mut usize,
     count: &mut usize,
 ) -> u32
-    ensures { OnHeld (λ old status new. Tells done_of (λ answer. Lists answer number.new count.new old new) status)
+    ensures { OnHeld (λ old status new. Tells done_of (λ answer. Lists {A = Unit {0}} answer number.new count.new old new) status)
         shard.old.address.held result shard.new.address.held }
 {
     let Some(mut cache) = shard.take(alloc) else {
