@@ -5,7 +5,7 @@ use Rattle.slab.specs.Slab.{Slab}
 use Rattle.foyer_policy.specs.declared.error.Reason.{Reason}
 use Rattle.foyer_core.specs.declared.outcome.InsertedOnto.{InsertedOnto}
 use Rattle.foyer_core.specs.CallLaws.{AnswersIn}
-use Rattle.foyer_core.specs.Core.{AtShard, shard_at}
+use Rattle.foyer_core.specs.Core.{shard_at}
 use Rattle.foyer_core.specs.Cores.{core_of, fetches_of, hashes_of, meaning_of_core}
 use Rattle.foyer_core.specs.NoEntry.{Peeks}
 use Rattle.foyer_core.specs.Steps.{Touches}

@@ -6,7 +6,7 @@ use Rattle.foyer_policy.specs.Moments.{is_expired}
 use Rattle.foyer_core.specs.declared.record.Data.{Data}
 use Rattle.foyer_core.specs.NoEntry.{Peeks, Sees}
 use Rattle.foyer_core.specs.State.{Meaning, State, hit, is_expired_in}
-use Rattle.foyer_core.specs.Steps.{Touches, after_give_back, after_last}
+use Rattle.foyer_core.specs.Steps.{Touches, after_give_back}
 use Rattle.foyer_core.specs.Values.{Rec}
 use Rattle.foyer_core.proofs.Hits.{hit_fresh, hit_index, hit_live}
 
