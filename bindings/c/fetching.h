@@ -10,31 +10,53 @@ static void wake(struct slot *slot) {
         return;
     pthread_mutex_lock(&slot->sleep);
     slot->ends++;
-    pthread_cond_broadcast(&slot->ended);
+    pthread_cond_broadcast(&slot->have_ended);
     pthread_mutex_unlock(&slot->sleep);
 }
 
-/* Takes the answer of a call that asked for a missing key, once there is one. The lock is held. */
-static luffa_status take_answer(struct slot *slot, size_t number, luffa_entry *entry) {
+/* Counts the entries of a value's record that the shard keeps for calls that asked for its key. The lock is held. */
+static void count_answers(struct slot *slot, struct owned *owned) {
     luffa_record record;
-    luffa_status status = luffa_shard_answered(&slot->shard, number, &record);
-    if (status == LUFFA_OK)
-        give(slot, &record, entry);
-    else if (status != LUFFA_WAIT)
-        release(slot, number);
+    for (const struct asking *asking = slot->asking; asking != NULL; asking = asking->next)
+        if (luffa_shard_answered(&slot->shard, asking->number, &record) == LUFFA_OK && owned_by(&record) == owned)
+            owned->uses++;
+}
+
+/* Keeps the number of a call that asks for a missing key, until take_answer has its answer. The lock is held. */
+static void start_asking(struct slot *slot, struct asking *asking, size_t number) {
+    *asking = (struct asking){number, slot->asking};
+    slot->asking = asking;
+}
+
+/* Takes the answer of a call that asked for a missing key, once there is one. The lock is held. */
+static luffa_status take_answer(struct slot *slot, const struct asking *asking, luffa_entry *entry) {
+    luffa_record record;
+    luffa_status status = luffa_shard_answered(&slot->shard, asking->number, &record);
+    if (status == LUFFA_WAIT)
+        return status;
+    struct asking **link = &slot->asking;
+    while (*link != asking)
+        link = &(*link)->next;
+    *link = asking->next;
+    if (status == LUFFA_OK) {
+        if (record.owner != 0)
+            record.value = owned_by(&record)->value; /* its use was counted by the insert */
+        give_counted(slot, &record, entry);
+    } else
+        release(slot, asking->number);
     return status;
 }
 
 /* Waits for the answer. The lock is held when it begins, and not when it returns. */
-static luffa_status wait_for(struct slot *slot, size_t number, luffa_entry *entry) {
+static luffa_status wait_for(struct slot *slot, const struct asking *asking, luffa_entry *entry) {
     luffa_status status;
     slot->waiting++;
-    while ((status = take_answer(slot, number, entry)) == LUFFA_WAIT) {
+    while ((status = take_answer(slot, asking, entry)) == LUFFA_WAIT) {
         uint64_t ends = slot->ends;
         unlock(slot);
         pthread_mutex_lock(&slot->sleep);
         while (slot->ends == ends)
-            pthread_cond_wait(&slot->ended, &slot->sleep);
+            pthread_cond_wait(&slot->have_ended, &slot->sleep);
         pthread_mutex_unlock(&slot->sleep);
         lock(slot);
     }
@@ -68,8 +90,8 @@ static luffa_status complete(const struct lead *lead, const luffa_made *made) {
 }
 
 /* Makes the value of a key and ends its fetch with it. */
-static luffa_status make_value(const struct lead *lead, uint64_t now, size_t number, luffa_make make, void *context,
-                               luffa_entry *entry) {
+static luffa_status make_value(const struct lead *lead, uint64_t now, const struct asking *asking, luffa_make make,
+                               void *context, luffa_entry *entry) {
     struct slot *slot = lead->at.slot;
     luffa_made made = {.weight = 1, .now = now};
     bool is_made = make(context, lead->key, lead->key_len, &made) == 0;
@@ -78,7 +100,7 @@ static luffa_status make_value(const struct lead *lead, uint64_t now, size_t num
     if (status != LUFFA_OK && status != LUFFA_MISSING) /* the shard has room for the key since the fetch began */
         luffa_shard_cancel(&slot->shard, lead->at.hash, lead->key, lead->key_len, lead->fetch);
     wake(slot);
-    status = take_answer(slot, number, entry);
+    status = take_answer(slot, asking, entry);
     unlock_and_tell(slot);
     if (made.free_value != NULL)
         made.free_value((void *)(uintptr_t)made.value);

@@ -1,10 +1,11 @@
 /*
  * luffapricot.c: the calls of luffapricot.h, over shards behind locks. This file and those that it includes are not
- * proved; what they decide is which shard a key belongs to and who calls when. All that a shard does is in the proved
- * calls of shard.h.
+ * proved; what they decide is which shard a key belongs to, who calls when, and when a value of the caller's ends. All
+ * that a shard does is in the proved calls of shard.h.
  */
 #define _GNU_SOURCE
 #include "fetching.h"
+#include "walking.h"
 
 #ifndef LUFFA_PROOF
 #define LUFFA_PROOF "unproved"
@@ -76,7 +77,7 @@ static bool is_config(const luffa_config *config) {
 static void free_cache(luffa_cache *cache, size_t made) {
     for (size_t i = 0; i < made; i++) {
         luffa_shard_destroy(&cache->slots[i].shard);
-        pthread_cond_destroy(&cache->slots[i].ended);
+        pthread_cond_destroy(&cache->slots[i].have_ended);
         pthread_mutex_destroy(&cache->slots[i].sleep);
     }
     free(cache->slots);
@@ -87,11 +88,12 @@ static luffa_status create_slot(luffa_cache *cache, const luffa_config *config, 
     struct slot *slot = &cache->slots[index];
     memset(slot, 0, sizeof *slot);
     slot->cache = cache;
+    slot->is_listening = config->listener != NULL;
     luffa_status status = luffa_shard_create(
         &slot->shard, &config->policy, share_of(config->capacity, config->shards, index), config->listener != NULL);
     if (status == LUFFA_OK) {
         pthread_mutex_init(&slot->sleep, NULL);
-        pthread_cond_init(&slot->ended, NULL);
+        pthread_cond_init(&slot->have_ended, NULL);
     }
     return status;
 }
@@ -142,7 +144,7 @@ luffa_status luffa_insert(luffa_cache *cache, uint64_t now, const void *key, siz
 }
 
 /* Ends an insert whose record has a handle. The lock is held when it begins. */
-static luffa_status inserted(struct slot *slot, luffa_status status, const luffa_record *record, luffa_entry *entry) {
+static luffa_status inserted(struct slot *slot, luffa_status status, luffa_record *record, luffa_entry *entry) {
     luffa_entry unwanted = {0};
     if (status == LUFFA_OK) {
         wake(slot);
@@ -158,7 +160,35 @@ luffa_status luffa_insert_entry(luffa_cache *cache, uint64_t now, const void *ke
     luffa_record record;
     struct place at = lock_of(cache, key, key_len);
     luffa_status status = luffa_shard_insert_entry(&at.slot->shard, (luffa_at){now}, at.hash, key, key_len, value,
-                                                   value_len, terms, &record);
+                                                   value_len, 0, terms, &record);
+    return inserted(at.slot, status, &record, entry);
+}
+
+/* Tells from now on what leaves from a shard. The lock is held. */
+static void listen(struct slot *slot) {
+    if (!slot->is_listening)
+        luffa_shard_listen(&slot->shard);
+    slot->is_listening = true;
+}
+
+luffa_status luffa_insert_owned(luffa_cache *cache, uint64_t now, const void *key, size_t key_len, void *value,
+                                const luffa_terms *terms, void (*free_value)(void *context, void *value), void *context,
+                                luffa_entry *entry) {
+    luffa_record record;
+    struct owned *owned = calloc(1, sizeof *owned);
+    if (owned == NULL)
+        return LUFFA_NO_MEMORY;
+    *owned = (struct owned){.value = value, .free_value = free_value, .context = context};
+    owned->departures = (terms->flags & LUFFA_PHANTOM) != 0 ? 2 : 1;
+    struct place at = lock_of(cache, key, key_len);
+    listen(at.slot);
+    luffa_status status = luffa_shard_insert_entry(&at.slot->shard, (luffa_at){now}, at.hash, key, key_len, NULL, 0,
+                                                   (uintptr_t)owned, terms, &record);
+    if (status == LUFFA_OK) {
+        start_owned(at.slot, owned);
+        count_answers(at.slot, owned);
+    } else
+        free(owned);
     return inserted(at.slot, status, &record, entry);
 }
 
@@ -179,11 +209,22 @@ luffa_status luffa_get(luffa_cache *cache, uint64_t now, const void *key, size_t
     return status;
 }
 
+luffa_status luffa_peek(luffa_cache *cache, uint64_t now, const void *key, size_t key_len, void *buffer,
+                        size_t buffer_len, size_t *value_len) {
+    struct place at = lock_of(cache, key, key_len);
+    luffa_status status =
+        luffa_shard_peek(&at.slot->shard, (luffa_at){now}, at.hash, key, key_len, buffer, buffer_len, value_len);
+    unlock(at.slot);
+    return status;
+}
+
 luffa_status luffa_get_entry(luffa_cache *cache, uint64_t now, const void *key, size_t key_len, luffa_entry *entry) {
     struct place at = lock_of(cache, key, key_len);
     luffa_status status = luffa_shard_get_entry(&at.slot->shard, (luffa_at){now}, at.hash, key, key_len, entry);
-    if (counted(at.slot, status) == LUFFA_OK)
+    if (counted(at.slot, status) == LUFFA_OK) {
+        start_use(entry);
         entry->shard = at.slot;
+    }
     unlock(at.slot);
     return status;
 }
@@ -193,7 +234,7 @@ void luffa_release(luffa_entry *entry) {
     if (slot == NULL)
         return;
     lock(slot);
-    release(slot, entry->number);
+    release_entry(slot, entry);
     unlock(slot);
     *entry = (luffa_entry){0};
 }
@@ -202,18 +243,21 @@ luffa_status luffa_get_or_insert(luffa_cache *cache, uint64_t now, const void *k
                                  void *context, luffa_entry *entry) {
     luffa_record record;
     luffa_fetch fetch;
+    struct asking asking;
     struct place at = lock_of(cache, key, key_len);
     luffa_status status = luffa_shard_fetch(&at.slot->shard, (luffa_at){now}, at.hash, key, key_len, &record, &fetch);
     bool is_missing = status == LUFFA_LEAD || status == LUFFA_WAIT;
     counted(at.slot, is_missing ? LUFFA_MISSING : status);
+    if (is_missing)
+        start_asking(at.slot, &asking, record.number);
     if (status == LUFFA_WAIT)
-        return wait_for(at.slot, record.number, entry);
+        return wait_for(at.slot, &asking, entry);
     if (status == LUFFA_OK)
         give(at.slot, &record, entry);
     unlock(at.slot);
     if (status != LUFFA_LEAD)
         return status;
-    return make_value(&(struct lead){at, key, key_len, fetch.fetch}, now, record.number, make, context, entry);
+    return make_value(&(struct lead){at, key, key_len, fetch.fetch}, now, &asking, make, context, entry);
 }
 
 luffa_status luffa_remove_entry(luffa_cache *cache, const void *key, size_t key_len, luffa_entry *entry) {
@@ -242,6 +286,18 @@ luffa_status luffa_touch(luffa_cache *cache, uint64_t now, const void *key, size
     luffa_status status = luffa_shard_touch(&at.slot->shard, (luffa_at){now}, at.hash, key, key_len);
     counted(at.slot, status);
     unlock(at.slot);
+    return status;
+}
+
+luffa_status luffa_for_each(luffa_cache *cache, luffa_each each, void *context) {
+    return walk_all(cache, &(struct walk){.each = each, .context = context});
+}
+
+luffa_status luffa_remove_if(luffa_cache *cache, luffa_which which, void *context, uint64_t *removed) {
+    struct walk walk = {.which = which, .context = context};
+    luffa_status status = walk_all(cache, &walk);
+    if (removed != NULL)
+        *removed = walk.removed;
     return status;
 }
 
@@ -326,7 +382,10 @@ size_t luffa_shards(const luffa_cache *cache) { return cache->shards; }
 void luffa_destroy(luffa_cache *cache) {
     if (cache == NULL)
         return;
-    if (cache->listener != NULL)
-        luffa_clear(cache);
+    for (size_t i = 0; i < cache->shards; i++) {
+        if (cache->slots[i].is_listening)
+            bulk_in(&cache->slots[i], CLEAR, 0, 0);
+        free_owned(&cache->slots[i]);
+    }
     free_cache(cache, cache->shards);
 }

@@ -122,7 +122,8 @@ typedef struct luffa_cache luffa_cache;
 
 /*
  * A record that is held: its key and value stay readable and in place, even after an eviction, until luffa_release.
- * LRU doesn't evict a record that was looked up and is held.
+ * LRU doesn't evict a record that was looked up and is held. The value of luffa_insert_owned is the pointer that it was
+ * given, and its length is 0.
  */
 typedef struct luffa_entry {
     const void *key;
@@ -132,6 +133,7 @@ typedef struct luffa_entry {
     size_t weight;
     size_t number; /* private, as what follows */
     uint32_t event;
+    uint64_t owner;
     void *shard;
 } luffa_entry;
 
@@ -189,7 +191,7 @@ static inline luffa_config luffa_config_default(uint32_t policy) {
 luffa_status luffa_create(const luffa_config *config, luffa_cache **cache);
 
 /* Tells the listener that all records leave (LUFFA_CLEAR), and frees the cache with the entries that are still held.
- * The listener may not insert any more. NULL is allowed. */
+ * The listener and the callbacks of luffa_insert_owned may not insert any more. NULL is allowed. */
 void luffa_destroy(luffa_cache *cache);
 
 /* Inserts a record, which replaces that of its key. It never expires if `expires` is 0. F7 to F10. */
@@ -201,11 +203,25 @@ luffa_status luffa_insert_entry(luffa_cache *cache, uint64_t now, const void *ke
                                 size_t value_len, const luffa_terms *terms, luffa_entry *entry);
 
 /*
+ * Like luffa_insert_entry, of a value that stays where it is: the record has the pointer, and `free_value`, unless it
+ * is NULL, is called with `context` and `value` once, after the record has left and been told to the listener, and its
+ * last entry was released. The call that brings this about makes it, with no lock held, or luffa_destroy, which frees
+ * what is left; it may not use the cache then. F7 to F10: the caller keeps the value, and `free_value` is not called.
+ */
+luffa_status luffa_insert_owned(luffa_cache *cache, uint64_t now, const void *key, size_t key_len, void *value,
+                                const luffa_terms *terms, void (*free_value)(void *context, void *value), void *context,
+                                luffa_entry *entry);
+
+/*
  * Copies a value, or the part of it that fits the buffer, and writes its whole length. LUFFA_MISSING, F7 or F9.
  * If *value_len is more than buffer_len, call again with a larger buffer, or use luffa_get_entry.
  */
 luffa_status luffa_get(luffa_cache *cache, uint64_t now, const void *key, size_t key_len, void *buffer,
                        size_t buffer_len, size_t *value_len);
+
+/* Like luffa_get, and counts no use of the record, no hit and no miss. LUFFA_MISSING or F7. */
+luffa_status luffa_peek(luffa_cache *cache, uint64_t now, const void *key, size_t key_len, void *buffer,
+                        size_t buffer_len, size_t *value_len);
 
 /* Returns an entry of the key's record. LUFFA_MISSING, F7 or F9. */
 luffa_status luffa_get_entry(luffa_cache *cache, uint64_t now, const void *key, size_t key_len, luffa_entry *entry);
@@ -251,6 +267,21 @@ luffa_status luffa_clear(luffa_cache *cache);
 
 /* Evicts all records, except those that LRU pins. F7: some may be left. */
 luffa_status luffa_evict_all(luffa_cache *cache, uint64_t now);
+
+/* Is called with a record of the cache, of which it may read the key, the value and the weight until it returns. */
+typedef void (*luffa_each)(void *context, const luffa_entry *record);
+typedef int (*luffa_which)(void *context, const luffa_entry *record);
+
+/*
+ * Calls `each` with the records of the cache, shard by shard and in the order of the policy, also with expired ones
+ * that have not left. It counts no use. Records that come in or leave meanwhile may be called or not, and none twice,
+ * unless it is inserted again. F7: some shards were left out.
+ */
+luffa_status luffa_for_each(luffa_cache *cache, luffa_each each, void *context);
+
+/* Calls `which` as luffa_for_each does, and removes the records for which it returns another number than 0. Writes how
+ * many it removed, unless `removed` is NULL. F7: some may be left. */
+luffa_status luffa_remove_if(luffa_cache *cache, luffa_which which, void *context, uint64_t *removed);
 
 /* Writes what the cache holds, shard by shard, so it is no single moment's while other threads change the cache. `size`
  * is sizeof *stats. */

@@ -53,9 +53,12 @@ uint32_t luffa_shard_destroy(luffa_shard *);
 uint32_t luffa_shard_insert(luffa_shard *, luffa_at now, luffa_hashed hash, const uint8_t *key, size_t key_len,
                             const uint8_t *value, size_t value_len, size_t weight, uint64_t expires);
 uint32_t luffa_shard_insert_entry(luffa_shard *, luffa_at now, luffa_hashed hash, const uint8_t *key, size_t key_len,
-                                  const uint8_t *value, size_t value_len, const luffa_terms *, luffa_record *);
+                                  const uint8_t *value, size_t value_len, uint64_t owner, const luffa_terms *,
+                                  luffa_record *);
 uint32_t luffa_shard_get(luffa_shard *, luffa_at now, luffa_hashed hash, const uint8_t *key, size_t key_len,
                          uint8_t *out, size_t out_len, size_t *len);
+uint32_t luffa_shard_peek(luffa_shard *, luffa_at now, luffa_hashed hash, const uint8_t *key, size_t key_len,
+                          uint8_t *out, size_t out_len, size_t *len);
 uint32_t luffa_shard_get_entry(luffa_shard *, luffa_at now, luffa_hashed hash, const uint8_t *key, size_t key_len,
                                luffa_record *);
 uint32_t luffa_shard_remove(luffa_shard *, luffa_hashed hash, const uint8_t *key, size_t key_len, luffa_record *);
@@ -69,6 +72,10 @@ uint32_t luffa_shard_reconfigure(luffa_shard *, const luffa_policy *);
 uint32_t luffa_shard_load(luffa_shard *, luffa_load *);
 uint32_t luffa_shard_take_left(luffa_shard *, size_t *number, size_t *count);
 uint32_t luffa_shard_show_left(luffa_shard *, size_t number, size_t index, luffa_record *);
+uint32_t luffa_shard_list(luffa_shard *, size_t *number, size_t *count);
+uint32_t luffa_shard_show_listed(luffa_shard *, size_t number, size_t index, luffa_record *);
+uint32_t luffa_shard_remove_listed(luffa_shard *, size_t number, size_t index);
+uint32_t luffa_shard_listen(luffa_shard *);
 uint32_t luffa_shard_fetch(luffa_shard *, luffa_at now, luffa_hashed hash, const uint8_t *key, size_t key_len,
                            luffa_record *, luffa_fetch *);
 uint32_t luffa_shard_complete(luffa_shard *, luffa_at now, luffa_hashed hash, const uint8_t *key, size_t key_len,

@@ -15,6 +15,27 @@
 enum { LINE = 128, BATCH = 16, SPINS = 100 };
 
 /*
+ * A value that the cache was given in place of bytes. `uses` counts the record, until its departure has been told, and
+ * the entries of it; `departures` how often it is still to be told. With the last use the value ends: `free_value` is
+ * called once the lock is free.
+ */
+struct owned {
+    void *value;
+    void (*free_value)(void *context, void *value);
+    void *context;
+    size_t uses;
+    size_t departures;
+    struct owned *next;
+    struct owned *previous;
+};
+
+/* A call that has asked for a missing key, and the number under which the shard keeps the answer for it. */
+struct asking {
+    size_t number;
+    struct asking *next;
+};
+
+/*
  * A shard and its lock, on lines of their own. A call holds the lock for less than a microsecond mostly, so whoever
  * finds it taken spins for a while and then yields. Callers that wait for a fetch sleep: `waiting` counts them, and
  * `ends` the times that fetches ended while they waited, which changes under both locks.
@@ -25,10 +46,14 @@ struct slot {
     luffa_cache *cache;
     uint64_t hits;
     uint64_t misses;
+    struct owned *ended; /* values whose last use has ended under this lock */
+    struct owned *owned; /* all others */
+    struct asking *asking;
+    bool is_listening; /* whether the shard keeps what leaves to be told */
     size_t waiting;
     uint64_t ends;
     pthread_mutex_t sleep;
-    pthread_cond_t ended;
+    pthread_cond_t have_ended;
 };
 
 struct luffa_cache {
@@ -67,7 +92,24 @@ static inline void lock(struct slot *slot) {
         wait_for_lock(slot);
 }
 
-static inline void unlock(struct slot *slot) { atomic_store_explicit(&slot->is_locked, 0, memory_order_release); }
+static __attribute__((noinline, cold)) void free_values(struct owned *ended) {
+    while (ended != NULL) {
+        struct owned *next = ended->next;
+        if (ended->free_value != NULL)
+            ended->free_value(ended->context, ended->value);
+        free(ended);
+        ended = next;
+    }
+}
+
+/* Values that have ended meanwhile are freed once the lock is free. */
+static inline void unlock(struct slot *slot) {
+    struct owned *ended = slot->ended;
+    slot->ended = NULL;
+    atomic_store_explicit(&slot->is_locked, 0, memory_order_release);
+    if (ended != NULL)
+        free_values(ended);
+}
 
 static inline uint64_t folded(uint64_t a, uint64_t b) {
     unsigned __int128 product = (unsigned __int128)a * b;

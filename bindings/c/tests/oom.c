@@ -89,7 +89,59 @@ static int make(void *context, const void *key, size_t len, luffa_made *made) {
     return 0;
 }
 
+/* How many values were given and not freed. */
+static long are_owned;
+
+static void free_value(void *context, void *value) { CHECK(value == context && are_owned-- > 0); }
+
+static void look(void *context, const luffa_entry *record) {
+    CHECK(record->key_len == key_len);
+    ++*(size_t *)context;
+}
+
+static int is_third(void *context, const luffa_entry *record) {
+    look(context, record);
+    return *(size_t *)context % 3 == 0;
+}
+
 static int is_fine(luffa_status status) { return status == LUFFA_OK || status == LUFFA_NO_MEMORY; }
+
+static void walks(luffa_cache *cache) {
+    size_t count = 0, entries = luffa_entries(cache);
+    uint64_t removed = 99;
+    luffa_status status = luffa_for_each(cache, look, &count);
+    CHECK(status == LUFFA_OK ? count == entries : status == LUFFA_NO_MEMORY && count <= entries);
+    count = 0;
+    status = luffa_remove_if(cache, is_third, &count, &removed);
+    CHECK(status == LUFFA_OK ? removed == count / 3 : status == LUFFA_NO_MEMORY && removed <= count / 3);
+    CHECK(luffa_entries(cache) == entries - removed);
+}
+
+/* Values that the caller gives, some of which are held: no listener hears of them here. */
+static void owned(luffa_cache *cache) {
+    luffa_terms terms = {.weight = 1};
+    luffa_entry entries[8];
+    size_t held = 0;
+    for (uint64_t key = 0; key < KEYS; key++) {
+        are_owned++;
+        luffa_entry *entry = held < 8 && key % 5 == 0 ? &entries[held] : NULL;
+        terms.flags = key % 11 == 0 ? LUFFA_PHANTOM : 0;
+        luffa_status status =
+            luffa_insert_owned(cache, 0, spelled(key), key_len, &are_owned, &terms, free_value, &are_owned, entry);
+        CHECK(is_fine(status));
+        if (status != LUFFA_OK)
+            are_owned--;
+        else
+            held += entry != NULL;
+    }
+    walks(cache);
+    for (size_t i = 0; i < held; i += 2)
+        luffa_release(&entries[i]);
+    luffa_status status = luffa_clear(cache);
+    CHECK(is_fine(status));
+    for (size_t i = 1; i < held; i += 2)
+        luffa_release(&entries[i]);
+}
 
 /* Inserts, lookups and bulk calls over KEYS keys. */
 static void calls(luffa_cache *cache) {
@@ -106,7 +158,11 @@ static void calls(luffa_cache *cache) {
         status = luffa_get(cache, key, spelled(asked), key_len, &found, 8, &len);
         CHECK(is_fine(status) || status == LUFFA_MISSING);
         CHECK(status != LUFFA_OK || (len == 8 && found == asked));
+        status = luffa_peek(cache, key, spelled(asked), key_len, &found, 8, &len);
+        CHECK(is_fine(status) || status == LUFFA_MISSING);
+        CHECK(status != LUFFA_OK || (len == 8 && found == asked));
     }
+    walks(cache);
     for (uint64_t key = 0; key < KEYS; key += 7) {
         int is_made = 0;
         luffa_status status = luffa_get_or_insert(cache, KEYS, spelled(key), key_len, make, &is_made, &entry);
@@ -151,6 +207,8 @@ static void run(uint32_t policy, long fail, int is_heard) {
         granted = only_one ? -1 : 0;
     }
     calls(cache);
+    if (!is_heard)
+        owned(cache);
     granted = -1; /* from here on there is memory */
     uint64_t key = 7, found = 0;
     CHECK(luffa_insert(cache, 0, spelled(key), key_len, &key, 8, 1, 0) == LUFFA_OK);
@@ -160,6 +218,7 @@ static void run(uint32_t policy, long fail, int is_heard) {
     CHECK(luffa_usage(cache) == 0 && luffa_entries(cache) == 0);
     for (size_t i = 0; is_heard && i <= KEYS; i++)
         CHECK(are_in[i] == 0);
+    CHECK(are_owned == 0);
     luffa_destroy(cache);
 }
 

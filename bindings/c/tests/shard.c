@@ -15,9 +15,13 @@ static void all_closed(luffa_shard *shard) {
     size_t len = 77, number = 77;
     uint8_t key[1] = {1};
     CHECK(luffa_shard_insert(shard, NOW, HASH, key, 1, key, 1, 1, 0) == LUFFA_NOT_OPEN);
-    CHECK(luffa_shard_insert_entry(shard, NOW, HASH, key, 1, key, 1, &TERMS, &record) == LUFFA_NOT_OPEN);
+    CHECK(luffa_shard_insert_entry(shard, NOW, HASH, key, 1, key, 1, 0, &TERMS, &record) == LUFFA_NOT_OPEN);
     CHECK(luffa_shard_get(shard, NOW, HASH, key, 1, key, 1, &len) == LUFFA_NOT_OPEN);
+    CHECK(luffa_shard_peek(shard, NOW, HASH, key, 1, key, 1, &len) == LUFFA_NOT_OPEN);
     CHECK(luffa_shard_get_entry(shard, NOW, HASH, key, 1, &record) == LUFFA_NOT_OPEN);
+    CHECK(luffa_shard_list(shard, &number, &len) == LUFFA_NOT_OPEN && luffa_shard_listen(shard) == LUFFA_NOT_OPEN);
+    CHECK(luffa_shard_show_listed(shard, 0, 0, &record) == LUFFA_NOT_OPEN);
+    CHECK(luffa_shard_remove_listed(shard, 0, 0) == LUFFA_NOT_OPEN);
     CHECK(luffa_shard_remove(shard, HASH, key, 1, &record) == LUFFA_NOT_OPEN);
     CHECK(luffa_shard_contains(shard, NOW, HASH, key, 1) == LUFFA_NOT_OPEN);
     CHECK(luffa_shard_touch(shard, NOW, HASH, key, 1) == LUFFA_NOT_OPEN);

@@ -19,7 +19,7 @@ struct text {
 struct waiting {
     uint64_t key;
     uint64_t token;
-    size_t number;
+    struct asking *asking;
 };
 
 static luffa_cache *cache;
@@ -45,6 +45,15 @@ static size_t hand_out(const luffa_entry *entry) {
     handles = grown(handles, handed_out, sizeof *handles);
     handles[handed_out] = *entry;
     return handed_out++;
+}
+
+/* What the library has in the frame of a call that waits. The lock is held. */
+static struct asking *new_asking(struct slot *slot, size_t number) {
+    struct asking *asking = malloc(sizeof *asking);
+    if (asking == NULL)
+        abort();
+    start_asking(slot, asking, number);
+    return asking;
 }
 
 static void wait_too(struct waiting it) {
@@ -129,13 +138,14 @@ static void collect_answers(uint64_t key, const char *before) {
         luffa_entry entry;
         if (it.key == key) {
             lock(slot_at(key));
-            status = take_answer(slot_at(key), it.number, &entry);
+            status = take_answer(slot_at(key), it.asking, &entry);
             unlock(slot_at(key));
         }
         if (status == LUFFA_WAIT) {
             waiting[kept++] = it;
             continue;
         }
+        free(it.asking);
         bool is_entry = status == LUFFA_OK;
         add(&answers, "%st%llu=%c%zu", before, (unsigned long long)it.token, is_entry ? 'h' : 'F',
             is_entry ? hand_out(&entry) : status);
@@ -173,14 +183,16 @@ static void fetch_line(uint64_t key) {
     lock(slot);
     luffa_status status = luffa_shard_fetch(&slot->shard, (luffa_at){now}, (luffa_hashed){key}, (const uint8_t *)&key,
                                             sizeof key, &record, &fetch);
+    bool is_missing = status == LUFFA_LEAD || status == LUFFA_WAIT;
+    if (is_missing)
+        wait_too((struct waiting){key, fetch.token, new_asking(slot, record.number)});
     if (status == LUFFA_OK)
         give(slot, &record, &entry);
     unlock(slot);
-    if (status != LUFFA_LEAD && status != LUFFA_WAIT) {
+    if (!is_missing) {
         print_found(status, &entry);
         return;
     }
-    wait_too((struct waiting){key, fetch.token, record.number});
     if (status == LUFFA_LEAD)
         printf("lead t%llu f%llu", (unsigned long long)fetch.token, (unsigned long long)fetch.fetch);
     else
@@ -306,6 +318,8 @@ int main(int argc, char **argv) {
     luffa_destroy(cache);
     free(line);
     free(handles);
+    for (size_t i = 0; i < waits; i++)
+        free(waiting[i].asking);
     free(waiting);
     free(left.bytes);
     free(answers.bytes);

@@ -13,7 +13,7 @@ enum { KEYS = 3000, HELD = 16, MOST_THREADS = 64, LONGEST = 400 };
 
 static luffa_cache *cache;
 static atomic_int is_over;
-static atomic_ulong wrong, calls, made, left;
+static atomic_ulong wrong, calls, made, left, given, freed;
 static atomic_int is_making[KEYS + 1];
 
 struct value {
@@ -66,9 +66,81 @@ static void hear(void *context, int event, const void *key, size_t key_len, cons
     uint32_t number;
     (void)context;
     memcpy(&number, key, key_len);
-    look_at(number, value, value_len);
+    if (number < KEYS)
+        look_at(number, value, value_len);
     wrong += event > LUFFA_CLEAR;
     left++;
+}
+
+/* A value that the cache is given, which is freed once and stays readable until then. */
+struct given {
+    atomic_int is_freed;
+    uint32_t key;
+};
+
+static void free_given(void *context, void *value) {
+    struct given *it = value;
+    wrong += context != &cache || atomic_fetch_add(&it->is_freed, 1) != 0;
+    freed++;
+    free(it);
+}
+
+static void look_at_given(const luffa_entry *record) {
+    const struct given *it = record->value;
+    uint32_t number;
+    memcpy(&number, record->key, sizeof number);
+    wrong += record->value_len != 0 || it->is_freed != 0 || it->key != number;
+}
+
+/* Keys from KEYS on have such values. */
+static void give(uint32_t key, luffa_entry *entry) {
+    const luffa_terms terms = {.weight = 1, .flags = key % 16 == 0 ? LUFFA_PHANTOM : 0};
+    struct given *it = malloc(sizeof *it);
+    *it = (struct given){0, key};
+    given++;
+    if (luffa_insert_owned(cache, 0, &key, sizeof key, it, &terms, free_given, &cache, entry) != LUFFA_OK)
+        wrong++;
+}
+
+static void look_at_any(void *context, const luffa_entry *record) {
+    uint32_t number;
+    memcpy(&number, record->key, sizeof number);
+    if (number >= KEYS)
+        look_at_given(record);
+    else
+        look_at(number, record->value, record->value_len);
+    ++*(uint32_t *)context;
+}
+
+static int look_and_choose(void *context, const luffa_entry *record) {
+    look_at_any(context, record);
+    return *(uint32_t *)context % 8 == 0;
+}
+
+static int make_given(void *context, const void *key, size_t key_len, luffa_made *out) {
+    uint32_t number;
+    (void)context, (void)key_len, (void)out;
+    memcpy(&number, key, sizeof number);
+    give(number, NULL);
+    return 1; /* the insert has ended the fetch */
+}
+
+static void use_given(uint32_t noise, luffa_entry *held) {
+    uint32_t key = KEYS + noise % 300;
+    luffa_entry entry = {0};
+    if (noise % 3 == 0)
+        give(key, noise % 2 == 0 ? &entry : NULL);
+    else if (noise % 5 == 0)
+        luffa_get_or_insert(cache, 0, &key, sizeof key, make_given, NULL, &entry);
+    else
+        luffa_get_entry(cache, 0, &key, sizeof key, &entry);
+    if (entry.shard == NULL)
+        return;
+    look_at_given(&entry);
+    if (held->shard != NULL)
+        look_at_given(held);
+    luffa_release(held);
+    *held = entry;
 }
 
 static uint32_t next(uint32_t *state) {
@@ -91,13 +163,15 @@ static void hold(luffa_entry *held, luffa_entry entry, uint32_t key) {
 
 static void *work(void *context) {
     uint32_t state = *(uint32_t *)context;
-    luffa_entry held[HELD] = {{0}}, entry;
+    luffa_entry held[HELD] = {{0}}, held_given[HELD] = {{0}}, entry;
     struct value value;
     while (!is_over) {
         uint32_t noise = next(&state), key = noise % KEYS, call = next(&state) % 1000;
         size_t len;
         key = next(&state) % (key + 1); /* low keys more often */
-        if (call < 500) {
+        if (noise % 8 == 0) {
+            use_given(next(&state), &held_given[noise / 8 % HELD]);
+        } else if (call < 500) {
             key |= 1;
             luffa_status status = luffa_get(cache, 0, &key, sizeof key, &value, sizeof value, &len);
             if (status == LUFFA_OK)
@@ -126,6 +200,12 @@ static void *work(void *context) {
         } else if (call < 990) {
             luffa_touch(cache, 0, &key, sizeof key);
             luffa_contains(cache, 0, &key, sizeof key);
+        } else if (call < 991) {
+            uint32_t count = 0;
+            if (noise % 2 == 0)
+                wrong += luffa_for_each(cache, look_at_any, &count) != LUFFA_OK;
+            else
+                wrong += luffa_remove_if(cache, look_and_choose, &count, NULL) != LUFFA_OK;
         } else if (call < 995) {
             luffa_resize(cache, 0, 200 + noise % 2000);
         } else if (call < 997) {
@@ -133,12 +213,14 @@ static void *work(void *context) {
         } else if (call < 998) {
             luffa_clear(cache);
         } else {
-            wrong += luffa_get_stats(cache).entries > KEYS;
+            wrong += luffa_get_stats(cache).entries > KEYS + 300;
         }
         calls++;
     }
-    for (int i = 0; i < HELD; i++)
+    for (int i = 0; i < HELD; i++) {
         luffa_release(&held[i]);
+        luffa_release(&held_given[i]);
+    }
     return NULL;
 }
 
@@ -158,7 +240,7 @@ static void run(uint32_t policy, long threads, double seconds, int is_heard) {
     is_over = 1;
     for (long i = 0; i < threads; i++)
         pthread_join(ids[i], NULL);
-    CHECK(luffa_clear(cache) == LUFFA_OK && luffa_usage(cache) == 0);
+    CHECK(luffa_clear(cache) == LUFFA_OK && luffa_usage(cache) == 0 && given == freed);
     luffa_destroy(cache);
 }
 
@@ -249,6 +331,7 @@ int main(int argc, char **argv) {
     for (uint32_t policy = LUFFA_FIFO; policy <= LUFFA_SIEVE; policy++)
         run(policy, threads < MOST_THREADS ? threads : MOST_THREADS, seconds / 5, policy % 2 == 0);
     CHECK(wrong == 0 && made > 0 && left > 0);
-    printf("%lu calls, %lu values made, %lu records told, %lu wrong\n", calls, made, left, wrong);
+    CHECK(given > 0);
+    printf("%lu calls, %lu values made, %lu given, %lu records told, %lu wrong\n", calls, made, given, left, wrong);
     return ended("threads");
 }

@@ -1,19 +1,25 @@
 -- What the calls of a cache of bytes make of it, where parts of it stay.
-use Rattle.std.proofs.Common.{◌≡◌, ◌∙◌, ◌++◌, ◌∷◌, ℕ, List, [], None, Result, Ok, Err, Bool, true, false, MatchResult, ap, if◌then◌else◌, inl, inr, refl, sym}
-use Rattle.std.specs.Prelude.{slice_index_or}
+use Rattle.std.proofs.Common.{◌≡◌, ◌∙◌, ◌++◌, ◌∷◌, ℕ, List, [], None, Option, Some, Result, Ok, Err, Bool, true, false, MatchResult, ap, if◌then◌else◌, inl, inr, refl, subst, sym}
+use Rattle.std.specs.Prelude.{IsSomeAnd, slice_index_or}
 use Rattle.slab.specs.Slab.{Slab}
 use Rattle.foyer_policy.specs.declared.error.Reason.{Reason}
 use Rattle.foyer_core.specs.declared.outcome.InsertedOnto.{InsertedOnto}
 use Rattle.foyer_core.specs.CallLaws.{AnswersIn}
-use Rattle.foyer_core.specs.Cores.{fetches_of, hashes_of, meaning_of_core}
+use Rattle.foyer_core.specs.Core.{shard_at}
+use Rattle.foyer_core.specs.Cores.{core_of, fetches_of, hashes_of, meaning_of_core}
+use Rattle.foyer_core.specs.NoEntry.{Peeks}
+use Rattle.foyer_core.specs.Steps.{Touches}
+use Rattle.foyer_core.proofs.CoreLaws.{now_here}
 use Rattle.foyer_core.specs.Values.{Answered, Held}
 use Rattle.luffapricot_c.specs.declared.cache.ByteCache.{ByteCache}
 use Rattle.luffapricot_c.specs.declared.hold.Hold.{Hold}
 use Rattle.luffapricot_c.specs.declared.key.Key.{Key}
 use Rattle.luffapricot_c.specs.declared.record.LuffaRecord.{LuffaRecord}
 use Rattle.luffapricot_c.specs.declared.value.Value.{Value}
-use Rattle.luffapricot_c.specs.Calls.{AnswersWaiting, CoreInserts, HoldsEntry, IfTaken, InsertsBytes}
+use Rattle.luffapricot_c.specs.Calls.{AnswersWaiting, CoreInserts, HoldsEntry, IfTaken, InsertsBytes, CorePeeks, CoreReads, CoreTouches}
+use Rattle.luffapricot_c.specs.Bytes.{CopiesValue}
 use Rattle.luffapricot_c.specs.Frames.{Frames}
+use Rattle.luffapricot_c.proofs.TouchLemmas.{touched_hits, touched_sees}
 
 -- what the core says of those who wait
 pub answers_waiting : (own : Key) (result : Result (InsertedOnto Key Value Answered ℕ) Reason) (old new : ByteCache) →
@@ -24,13 +30,88 @@ pub answers_waiting : (own : Key) (result : Result (InsertedOnto Key Value Answe
 answers_waiting own (Ok made) old new a = a
 answers_waiting own (Err reason) old new a = a
 
+-- a look that saw a value, which was copied
+pub peek_seen : (now : ℕ) (k : Key) (v : Value) (len : ℕ) (out filled : List ℕ) (c : ByteCache) →
+    CopiesValue out filled v len → CorePeeks now k (λ w seen. seen ≡ w) (Some v) c
+    → CorePeeks now k (CopiesValue out filled) (Some len) c
+peek_seen now k v len out filled c copies = go (shard_at (core_of c.core) (hashes_of c.core k)) where
+  go : (o : Option _) → IsSomeAnd o
+      (λ s. Peeks (meaning_of_core c.core) now s (hashes_of c.core k, k) (λ w seen. seen ≡ w) (Some v))
+      → IsSomeAnd o
+      (λ s. Peeks (meaning_of_core c.core) now s (hashes_of c.core k, k) (CopiesValue out filled) (Some len))
+  go (Some s) h = record {
+    id = h.id;
+    rec = h.rec;
+    hits = h.hits;
+    there = h.there;
+    made = subst (λ (w : Value). CopiesValue out filled w len) h.made copies;
+  }
+  go None h = absurd h
+
+-- a touch that found nothing is a read that did
+pub read_missing : {T : Type 0} (now : ℕ) (k : Key) (sees : Value → T → Type 0) (old new : ByteCache) →
+    CoreTouches now k (Ok false) old new → CoreReads now k sees (Ok None) old new
+read_missing now k sees old new at = record {
+  before = at.before;
+  after = at.after;
+  there = at.there;
+  stepped = record { touches = at.stepped; seen = tt };
+  rest = at.rest;
+}
+
+-- and one that was refused
+pub read_refused : {T : Type 0} (now : ℕ) (k : Key) (sees : Value → T → Type 0) (reason : Reason) (old new : ByteCache) →
+    CoreTouches now k (Err reason) old new → CoreReads now k sees (Err reason) old new
+read_refused now k sees reason old new at = record {
+  before = at.before;
+  after = at.after;
+  there = at.there;
+  stepped = record { touches = at.stepped; seen = tt };
+  rest = at.rest;
+}
+
+-- the shard that was touched
+now_touched : (now : ℕ) (k : Key) (old new : ByteCache) (at : CoreTouches now k (Ok true) old new) →
+    shard_at (core_of new.core) (hashes_of new.core k) ≡ Some at.after
+now_touched now k old new at = now_here (core_of old.core) (core_of new.core)
+    (λ s t. Touches (meaning_of_core old.core) now s (hashes_of old.core k, k) (Ok true) t) (hashes_of old.core k) at
+    (hashes_of old.core k) refl
+
+-- a touch and a look that saw a value, which was copied, are a read
+pub read_seen : (now : ℕ) (k : Key) (v : Value) (len : ℕ) (out filled : List ℕ) (old new : ByteCache) →
+    CopiesValue out filled v len → CoreTouches now k (Ok true) old new →
+    CorePeeks now k (λ w seen. seen ≡ w) (Some v) new → CoreReads now k (CopiesValue out filled) (Ok (Some len)) old new
+read_seen now k v len out filled old new copies at looks =
+    let peeks : CorePeeks now k (CopiesValue out filled) (Some len) new = peek_seen now k v len out filled new copies looks in
+    record {
+      before = at.before;
+      after = at.after;
+      there = at.there;
+      stepped = record {
+        touches = at.stepped;
+        seen = touched_sees (meaning_of_core old.core) now at.before (hashes_of old.core k, k) at.after
+            (CopiesValue out filled) len at.stepped
+            (subst (λ o. IsSomeAnd o (λ s. Peeks (meaning_of_core new.core) now s (hashes_of new.core k, k)
+            (CopiesValue out filled) (Some len))) (now_touched now k old new at) peeks);
+      };
+      rest = at.rest;
+    }
+
+-- a touch and a look that found nothing don't go together
+pub touched_is_there : {A : Type 0} (now : ℕ) (k : Key) (old new : ByteCache) → CoreTouches now k (Ok true) old new →
+    CorePeeks {T = Value} now k (λ w seen. seen ≡ w) None new → A
+touched_is_there {A} now k old new at looks = touched_hits (meaning_of_core old.core) {A = A} now at.before
+    (hashes_of old.core k, k) at.after (λ (w seen : Value). seen ≡ w) at.stepped
+    (subst (λ o. IsSomeAnd o (λ s. Peeks (meaning_of_core new.core) now s (hashes_of new.core k, k)
+    (λ (w seen : Value). seen ≡ w) None)) (now_touched now k old new at) looks)
+
 -- an insert with the core's answer
-pub inserts_bytes : (now hash : ℕ) (key bytes : List ℕ) (weight : ℕ) (p : Answered)
+pub inserts_bytes : (now hash : ℕ) (key bytes : List ℕ) (owner weight : ℕ) (p : Answered)
     (result : Result (InsertedOnto Key Value Answered ℕ) Reason) (old new : ByteCache) →
-    CoreInserts now hash key bytes weight p result old new → new.holds.slots ≡ old.holds.slots →
-    InsertsBytes now hash key bytes weight p result old new
-inserts_bytes now hash key bytes weight p (Ok made) old new i held = i
-inserts_bytes now hash key bytes weight p (Err reason) old new i held =
+    CoreInserts now hash key bytes owner weight p result old new → new.holds.slots ≡ old.holds.slots →
+    InsertsBytes now hash key bytes owner weight p result old new
+inserts_bytes now hash key bytes owner weight p (Ok made) old new i held = i
+inserts_bytes now hash key bytes owner weight p (Err reason) old new i held =
     inr (i, record { held = held; fetches = i.answered; left = refl; listener = i.rest.listener })
 
 -- room for more changes nothing that is held
@@ -56,13 +137,13 @@ frames_same old new holds same f = record {
 }
 
 -- an insert that failed over more room for what is held
-pub failed_same : (now hash : ℕ) (key bytes : List ℕ) (weight : ℕ) (p : Answered) (reason : Reason)
+pub failed_same : (now hash : ℕ) (key bytes : List ℕ) (owner weight : ℕ) (p : Answered) (reason : Reason)
     (old new : ByteCache) (holds : Slab Hold) → holds.slots ≡ old.holds.slots →
-    InsertsBytes now hash key bytes weight p (Err reason) (record old { holds = holds }) new →
-    InsertsBytes now hash key bytes weight p (Err reason) old new
-failed_same now hash key bytes weight p reason old new holds same (inl lacks) =
+    InsertsBytes now hash key bytes owner weight p (Err reason) (record old { holds = holds }) new →
+    InsertsBytes now hash key bytes owner weight p (Err reason) old new
+failed_same now hash key bytes owner weight p reason old new holds same (inl lacks) =
     inl (lacks.0, lacks.1, frames_same old new holds same lacks.2)
-failed_same now hash key bytes weight p reason old new holds same (inr i) = inr (
+failed_same now hash key bytes owner weight p reason old new holds same (inr i) = inr (
   record {
     own = i.0.own;
     own_is = i.0.own_is;

@@ -44,6 +44,7 @@ use Rattle.foyer_core.specs.contracts.cache_core.CacheCore as Core
 use Rattle.foyer_core.specs.contracts.entry.CoreEntry as CoreEntry
 use Rattle.foyer_core.specs.contracts.entry.Left as Left
 use Rattle.foyer_core.specs.contracts.entry.tail.Tail as Tail
+use Rattle.foyer_core.specs.contracts.piece.Piece as Piece
 
 module _ (T : RattleType) (t : IsSend T) where
   cell : IsSend (Cell.the_field T).row
@@ -91,6 +92,9 @@ module _ (K V P : RattleType) (k : IsSend K) (v : IsSend V) (p : IsSend P) (ks :
 
   pub gone : IsSend (Left.the_field K V P).row
   gone = let s = as_row_send (Share.the_field K V P) share in search (sendable, crosses) depth 20
+
+  pub piece : IsSend (Piece.the_field K V P).row
+  piece = let s = as_row_send (Share.the_field K V P) share in search (sendable, crosses) depth 20
 
   records : IsSend (Records.the_field K V P).row
   records = let s = as_row_send (Slots.the_field (Slot.the_row K V P)) (slots (Slot.the_row K V P) (as_row_send (Slot.the_field K V P) slot)) in

@@ -11,8 +11,9 @@ use Rattle.slab.specs.contracts.Slab as Slab
 use Rattle.slab.specs.contracts.Entry as Entry
 use Rattle.foyer_core.specs.contracts.entry.CoreEntry as CoreEntry
 use Rattle.foyer_core.specs.contracts.entry.Left as Left
+use Rattle.foyer_core.specs.contracts.piece.Piece as Piece
 use Rattle.foyer_core.specs.contracts.properties.CacheProperties as Properties
-use Rattle.luffapricot_c.proofs.CoreCrosses.{core, entry, gone, tag_finder}
+use Rattle.luffapricot_c.proofs.CoreCrosses.{core, entry, gone, piece, tag_finder}
 use Rattle.luffapricot_c.proofs.PoliciesCross.{any}
 use Rattle.luffapricot_c.specs.contracts.key.Key as Key
 use Rattle.luffapricot_c.specs.contracts.value.Value as Value
@@ -67,11 +68,17 @@ left = gone Key.the_row Value.the_row Properties.the_row key value properties ke
 left_row : IsSend (Left.the_row Key.the_row Value.the_row Properties.the_row)
 left_row = as_row_send (Left.the_field Key.the_row Value.the_row Properties.the_row) left
 
+listed : IsSend (Piece.the_row Key.the_row Value.the_row Properties.the_row)
+listed = as_row_send (Piece.the_field Key.the_row Value.the_row Properties.the_row)
+    (piece Key.the_row Value.the_row Properties.the_row key value properties key_sync value_sync properties_sync)
+
 handle : IsSend (CoreEntry.the_field Key.the_row Value.the_row Properties.the_row).row
 handle = entry Key.the_row Value.the_row Properties.the_row key value properties key_sync value_sync properties_sync
 
 held : IsSend Held.the_field.row
-held = let h = handle in let l = left in let m = left_row in search (sendable, crosses) depth 20
+held = let h = handle in let l = left in let m = left_row in
+    let p = Vec-send (Piece.the_row Key.the_row Value.the_row Properties.the_row) listed in
+    search (sendable, crosses) depth 20
 
 hold : IsSend Hold.the_row
 hold = as_row_send Hold.the_field (let h = held in search sendable depth 20)

@@ -9,3 +9,4 @@ pub mod HoldLemmas
 pub mod CallLemmas
 pub mod OpenLemmas
 pub mod ReleaseLemmas
+pub mod TouchLemmas

@@ -12,9 +12,9 @@ use Rattle.luffapricot_c.specs.declared.value.Value.{Value}
 abbrev pub IsKey : ℕ → List ℕ → Key → Type 0
 IsKey hash bytes key = (key.hash ≡ hash) × (key.bytes.items ≡ bytes)
 
--- a value of these bytes, with the weight that the caller gives them
-abbrev pub IsValue : List ℕ → ℕ → Value → Type 0
-IsValue bytes weight value = (value.bytes.items ≡ bytes) × (value.weight ≡ weight)
+-- a value of these bytes and this owner, with the weight that the caller gives them
+abbrev pub IsValue : List ℕ → ℕ → ℕ → Value → Type 0
+IsValue bytes owner weight value = (value.bytes.items ≡ bytes) × (value.owner ≡ owner) × (value.weight ≡ weight)
 
 -- when a record expires, where 0 is never
 abbrev pub expiry_of : ℕ → Option ℕ
@@ -40,7 +40,12 @@ admitted_with p admitted = coming_in (λ _. None) (λ q phantom. record q { phan
 abbrev pub copied_into : List ℕ → List ℕ → List ℕ
 copied_into bytes out = take (length out) bytes ++ drop (length bytes) out
 
+-- what is left in a buffer by a copy of a value, whose length is told
+abbrev pub CopiesValue : List ℕ → List ℕ → Value → ℕ → Type 0
+CopiesValue out filled value len = (len ≡ length value.bytes.items) × (filled ≡ copied_into value.bytes.items out)
+
 -- a record that is shown to C
 abbrev pub Shows : LuffaRecord → Held Key Value Answered → Type 0
 Shows shown entry = (shown.key_len ≡ length entry.kept.key.bytes.items)
     × (shown.value_len ≡ length entry.kept.value.bytes.items) × (shown.weight ≡ entry.kept.weight)
+    × (shown.owner ≡ entry.kept.value.owner)

@@ -1,5 +1,5 @@
 -- What the calls of a cache of bytes make of it, by the steps of its core.
-use Rattle.std.specs.Prelude.{◌≡◌, ℕ, ◌+◌, ◌++◌, ◌⊎◌, Bool, true, false, List, [], ◌∷◌, Option, Some, None, Result, Ok, Err, if◌then◌else◌, is_some, length}
+use Rattle.std.specs.Prelude.{◌≡◌, ℕ, ◌+◌, ◌++◌, ◌⊎◌, IsSomeAnd, Bool, true, false, List, [], ◌∷◌, Option, Some, None, Result, Ok, Err, if◌then◌else◌, is_some, length}
 use Rattle.slab.specs.Slab.{Slab, Updates, get}
 use Rattle.foyer_policy.specs.declared.error.Reason.{Reason}
 use Rattle.foyer_policy.specs.declared.error.Reason.TheVariants.{NoMemory}
@@ -7,12 +7,13 @@ use Rattle.foyer_policy.specs.declared.types.Event.{Event}
 use Rattle.foyer_policy.specs.declared.types.Event.TheVariants.{Remove}
 use Rattle.foyer_policy.specs.declared.types.Source.TheVariants.{Outer}
 use Rattle.foyer_core.specs.declared.outcome.InsertedOnto.{InsertedOnto}
-use Rattle.foyer_core.specs.CallLaws.{AnswersIn}
-use Rattle.foyer_core.specs.Core.{AtShard, InsertsWeighed, hit_in}
+use Rattle.foyer_core.specs.declared.outcome.PutOnto.{PutOnto}
+use Rattle.foyer_core.specs.CallLaws.{AnswersIn, IsNewEntry}
+use Rattle.foyer_core.specs.Core.{AtShard, InsertsWeighed, hit_in, shard_at}
 use Rattle.foyer_core.specs.CoreFetches.{open_in}
 use Rattle.foyer_core.specs.Cores.{core_of, fetches_of, hashes_of, meaning_of_core}
-use Rattle.foyer_core.specs.Dropping.{EndsEntry}
 use Rattle.foyer_core.specs.Inflight.{waiters_of}
+use Rattle.foyer_core.specs.NoEntry.{Peeks, PutsWeighed, Reads, last_of}
 use Rattle.foyer_core.specs.Onto.{insertion_onto}
 use Rattle.foyer_core.specs.State.{at_moment}
 use Rattle.foyer_core.specs.Steps.{Gets, Removes, Touches}
@@ -24,7 +25,7 @@ use Rattle.luffapricot_c.specs.declared.key.Key.{Key}
 use Rattle.luffapricot_c.specs.declared.record.LuffaRecord.{LuffaRecord}
 use Rattle.luffapricot_c.specs.declared.value.Value.{Value}
 use Rattle.luffapricot_c.specs.Holds.{given}
-use Rattle.luffapricot_c.specs.Bytes.{IsKey, IsValue, Shows, admitted_with, copied_into}
+use Rattle.luffapricot_c.specs.Bytes.{CopiesValue, IsKey, IsValue, Shows, admitted_with}
 use Rattle.luffapricot_c.specs.Frames.{Frames}
 
 -- A call on what an address holds, and its status: with nothing there, 107, and still nothing is there; else what is there
@@ -57,10 +58,17 @@ CoreRemoves k answer old new =
     AtShard (λ s t. Removes (meaning_of_core old.core) s (hashes_of old.core k, k) answer t) (hashes_of old.core k)
     (core_of old.core) (core_of new.core)
 
--- an entry ends, and what leaves with it
-abbrev pub Ends : Held Key Value Answered → ByteCache → ByteCache → Type 0
-Ends entry old new = (leave : Option (Event × Gone Key Value Answered))
-    × EndsEntry (meaning_of_core old.core) entry leave (core_of old.core) (core_of new.core)
+-- a read of a key by the core, where this is seen of its value
+abbrev pub CoreReads : {T : Type 0} → ℕ → Key → (Value → T → Type 0) → Result (Option T) Reason → ByteCache → ByteCache →
+    Type 0
+CoreReads now k sees answer old new =
+    AtShard (λ s t. Reads (meaning_of_core old.core) now s (hashes_of old.core k, k) sees answer t) (hashes_of old.core k)
+    (core_of old.core) (core_of new.core)
+
+-- a look at a key's value by the core, of which this is seen
+abbrev pub CorePeeks : {T : Type 0} → ℕ → Key → (Value → T → Type 0) → Option T → ByteCache → Type 0
+CorePeeks now k sees answer c = IsSomeAnd (shard_at (core_of c.core) (hashes_of c.core k))
+    (λ s. Peeks (meaning_of_core c.core) now s (hashes_of c.core k, k) sees answer)
 
 -- what left is told, if there is a listener
 abbrev pub IsToldOf : List (Event × Gone Key Value Answered) → ByteCache → ByteCache → Type 0
@@ -78,13 +86,13 @@ AnswersWaiting own (Ok made) old new = AnswersIn (meaning_of_core old.core).same
     made.answers (fetches_of old.core) (fetches_of new.core)
 AnswersWaiting own (Err _) old new = fetches_of new.core ≡ fetches_of old.core
 
--- the core's insert of a record of these bytes, weight and properties
-pub record CoreInserts (now hash : ℕ) (key bytes : List ℕ) (weight : ℕ) (p : Answered)
+-- the core's insert of a record of these bytes, owner, weight and properties
+pub record CoreInserts (now hash : ℕ) (key bytes : List ℕ) (owner weight : ℕ) (p : Answered)
     (result : Result (InsertedOnto Key Value Answered ℕ) Reason) (old new : ByteCache) : Type 0 where
   pub own : Key
   pub own_is : IsKey hash key own
   pub value : Value
-  pub value_is : IsValue bytes weight value
+  pub value_is : IsValue bytes owner weight value
   pub leaves : List (Event × Gone Key Value Answered)
   pub inserts : InsertsWeighed (at_moment now (meaning_of_core old.core)) Outer (λ w. w ≡ value.weight)
       (λ admitted. admitted ≡ true) (hashes_of old.core own) own value (admitted_with p)
@@ -95,53 +103,89 @@ pub record CoreInserts (now hash : ℕ) (key bytes : List ℕ) (weight : ℕ) (p
   pub rest : Frames (record old { core = new.core; holds = new.holds; left = new.left }) new
 
 -- an insert, with what the core answers, or for want of memory before that
-abbrev pub InsertsBytes : ℕ → ℕ → List ℕ → List ℕ → ℕ → Answered → Result (InsertedOnto Key Value Answered ℕ) Reason →
+abbrev pub InsertsBytes : ℕ → ℕ → List ℕ → List ℕ → ℕ → ℕ → Answered → Result (InsertedOnto Key Value Answered ℕ) Reason →
     ByteCache → ByteCache → Type 0
-InsertsBytes now hash key bytes weight p (Ok made) old new = CoreInserts now hash key bytes weight p (Ok made) old new
-InsertsBytes now hash key bytes weight p (Err reason) old new =
+InsertsBytes now hash key bytes owner weight p (Ok made) old new =
+    CoreInserts now hash key bytes owner weight p (Ok made) old new
+InsertsBytes now hash key bytes owner weight p (Err reason) old new =
     Lacks reason old new
-    ⊎ (CoreInserts now hash key bytes weight p (Err reason) old new × Frames (record old { left = new.left }) new)
+    ⊎ (CoreInserts now hash key bytes owner weight p (Err reason) old new × Frames (record old { left = new.left }) new)
 
--- an insert whose entry ends at once
-abbrev pub Inserts : {A : Type 0} → ℕ → ℕ → List ℕ → List ℕ → ℕ → Answered → Result A Reason → ByteCache → ByteCache →
-    Type 0
-Inserts now hash key bytes weight p (Ok _) old new = (made : InsertedOnto Key Value Answered ℕ) × (mid : ByteCache)
-    × CoreInserts now hash key bytes weight p (Ok made) old mid × Ends made.entry mid new
-    × (new.holds ≡ given made.answers old.holds) × Frames (record mid { holds = new.holds }) new
-Inserts now hash key bytes weight p (Err reason) old new = InsertsBytes now hash key bytes weight p (Err reason) old new
+-- those who wait for a key are answered by entries of a new record of it with this value, and its fetch is closed; after
+-- a refusal all go on waiting
+abbrev pub PutAnswers : Key → Value → Result (PutOnto Key Value Answered ℕ) Reason → ByteCache → ByteCache → Type 0
+PutAnswers own value (Ok put) old new = (entry : Held Key Value Answered)
+    × IsNewEntry (core_of old.core) (hashes_of old.core own) own value entry
+    × AnswersIn (meaning_of_core old.core).same (hashes_of old.core own) entry put.answers (fetches_of old.core)
+    (fetches_of new.core)
+PutAnswers own value (Err _) old new = fetches_of new.core ≡ fetches_of old.core
 
--- an insert whose entry is held
-abbrev pub InsertsEntry : {A : Type 0} → ℕ → ℕ → List ℕ → List ℕ → ℕ → Answered → Result A Reason → LuffaRecord →
-    ByteCache → ByteCache → Type 0
-InsertsEntry now hash key bytes weight p (Ok _) shown old new = (made : InsertedOnto Key Value Answered ℕ)
-    × (mid : Slab Hold) × CoreInserts now hash key bytes weight p (Ok made) old new
-    × HoldsEntry made.entry shown old.holds mid × (new.holds ≡ given made.answers mid)
-InsertsEntry now hash key bytes weight p (Err reason) shown old new =
-    InsertsBytes now hash key bytes weight p (Err reason) old new
-
--- a get that finds an entry, whose value is copied, and which ends at once
-pub record Copies (now hash : ℕ) (key out : List ℕ) (len : ℕ) (filled : List ℕ) (old new : ByteCache) : Type 0 where
+-- the core's put of a record of these bytes, weight and properties
+pub record CorePuts (now hash : ℕ) (key bytes : List ℕ) (weight : ℕ) (p : Answered)
+    (result : Result (PutOnto Key Value Answered ℕ) Reason) (old new : ByteCache) : Type 0 where
   pub own : Key
   pub own_is : IsKey hash key own
-  pub entry : Held Key Value Answered
-  pub mid : ByteCache
-  pub gets : CoreGets now own (Ok (Some entry)) old mid
-  pub ends : Ends entry mid new
-  pub len_is : len ≡ length entry.kept.value.bytes.items
-  pub filled_is : filled ≡ copied_into entry.kept.value.bytes.items out
-  pub rest : Frames old new
+  pub value : Value
+  pub value_is : IsValue bytes 0 weight value
+  pub leaves : List (Event × Gone Key Value Answered)
+  pub puts : PutsWeighed (meaning_of_core old.core) now (λ w. w ≡ value.weight) (λ admitted. admitted ≡ true)
+      (hashes_of old.core own) own value (admitted_with p)
+      (1 + length (waiters_of (open_in (fetches_of old.core) (hashes_of old.core own, own)))) (last_of result) leaves
+      (core_of old.core) (core_of new.core)
+  pub answered : PutAnswers own value result old new
+  pub told : IsToldOf leaves old new
+  pub rest : Frames (record old { core = new.core; holds = new.holds; left = new.left }) new
+
+-- an insert of which no entry is wanted
+abbrev pub Inserts : {A : Type 0} → ℕ → ℕ → List ℕ → List ℕ → ℕ → Answered → Result A Reason → ByteCache → ByteCache →
+    Type 0
+Inserts now hash key bytes weight p (Ok _) old new = (put : PutOnto Key Value Answered ℕ)
+    × CorePuts now hash key bytes weight p (Ok put) old new × (new.holds ≡ given put.answers old.holds)
+Inserts now hash key bytes weight p (Err reason) old new = Lacks reason old new
+    ⊎ (CorePuts now hash key bytes weight p (Err reason) old new × Frames (record old { left = new.left }) new)
+
+-- an insert whose entry is held
+abbrev pub InsertsEntry : {A : Type 0} → ℕ → ℕ → List ℕ → List ℕ → ℕ → ℕ → Answered → Result A Reason → LuffaRecord →
+    ByteCache → ByteCache → Type 0
+InsertsEntry now hash key bytes owner weight p (Ok _) shown old new = (made : InsertedOnto Key Value Answered ℕ)
+    × (mid : Slab Hold) × CoreInserts now hash key bytes owner weight p (Ok made) old new
+    × HoldsEntry made.entry shown old.holds mid × (new.holds ≡ given made.answers mid)
+InsertsEntry now hash key bytes owner weight p (Err reason) shown old new =
+    InsertsBytes now hash key bytes owner weight p (Err reason) old new
 
 -- a get that finds nothing, or fails
 abbrev pub GetsNone : ℕ → ℕ → List ℕ → Result (Option (Held Key Value Answered)) Reason → ByteCache → ByteCache → Type 0
 GetsNone now hash key answer old new = (own : Key) × IsKey hash key own × CoreGets now own answer old new
     × Frames old new
 
--- a get that copies the value of what it finds
+-- a read of a key that the core is asked for, whose value is copied
+pub record ReadsKey (now hash : ℕ) (key out filled : List ℕ) (answer : Result (Option ℕ) Reason) (old new : ByteCache) :
+    Type 0 where
+  pub own : Key
+  pub own_is : IsKey hash key own
+  pub reads : CoreReads now own (CopiesValue out filled) answer old new
+  pub rest : Frames old new
+
+-- a read of a key, whose value is copied
 abbrev pub GetsCopy : ℕ → ℕ → List ℕ → List ℕ → Result (Option ℕ) Reason → List ℕ → ByteCache → ByteCache → Type 0
-GetsCopy now hash key out (Ok (Some len)) filled old new = Copies now hash key out len filled old new
-GetsCopy now hash key out (Ok None) filled old new = (filled ≡ out) × GetsNone now hash key (Ok None) old new
+GetsCopy now hash key out (Ok (Some len)) filled old new = ReadsKey now hash key out filled (Ok (Some len)) old new
+GetsCopy now hash key out (Ok None) filled old new = (filled ≡ out) × ReadsKey now hash key out filled (Ok None) old new
 GetsCopy now hash key out (Err reason) filled old new = (filled ≡ out)
-    × (Lacks reason old new ⊎ GetsNone now hash key (Err reason) old new)
+    × (Lacks reason old new ⊎ ReadsKey now hash key out filled (Err reason) old new)
+
+-- a look at a key's value, which is copied, and nothing changes
+pub record PeeksKey (now hash : ℕ) (key out filled : List ℕ) (answer : Option ℕ) (old new : ByteCache) : Type 0 where
+  pub own : Key
+  pub own_is : IsKey hash key own
+  pub peeks : CorePeeks now own (CopiesValue out filled) answer old
+  pub core : new.core ≡ old.core
+  pub rest : Frames old new
+
+-- so by its answer
+abbrev pub PeeksCopy : ℕ → ℕ → List ℕ → List ℕ → Result (Option ℕ) Reason → List ℕ → ByteCache → ByteCache → Type 0
+PeeksCopy now hash key out (Ok (Some len)) filled old new = PeeksKey now hash key out filled (Some len) old new
+PeeksCopy now hash key out (Ok None) filled old new = (filled ≡ out) × PeeksKey now hash key out filled None old new
+PeeksCopy now hash key out (Err reason) filled old new = (filled ≡ out) × Lacks reason old new
 
 -- a get that finds an entry, which is held
 pub record GetsHeld (now hash : ℕ) (key : List ℕ) (shown : LuffaRecord) (old new : ByteCache) : Type 0 where

@@ -79,7 +79,7 @@ pub record CompletesKey (now hash : ℕ) (key : List ℕ) (fetch : ℕ) (bytes :
   pub own : Key
   pub own_is : IsKey hash key own
   pub value : Value
-  pub value_is : IsValue bytes terms.weight value
+  pub value_is : IsValue bytes 0 terms.weight value
   pub ended : Ended Key Value Answered ℕ
   pub completes : Completed (at_moment now (meaning_of_core old.core)) (record {
     hash = hashes_of old.core;

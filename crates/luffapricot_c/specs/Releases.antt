@@ -10,7 +10,7 @@ use Rattle.foyer_core.specs.Dropping.{EndsEntry}
 use Rattle.foyer_core.specs.Values.{Answered, Gone as GoneOf, Held as EntryOf}
 use Rattle.luffapricot_c.specs.declared.cache.ByteCache.{ByteCache}
 use Rattle.luffapricot_c.specs.declared.hold.Held.{Held}
-use Rattle.luffapricot_c.specs.declared.hold.Held.TheVariants.{Entry, Gone, Left, Refused, Waiting}
+use Rattle.luffapricot_c.specs.declared.hold.Held.TheVariants.{Entry, Gone, Left, Listed, Refused, Waiting}
 use Rattle.luffapricot_c.specs.declared.hold.Hold.{Hold}
 use Rattle.luffapricot_c.specs.declared.key.Key.{Key}
 use Rattle.luffapricot_c.specs.declared.record.LuffaRecord.{LuffaRecord}
@@ -29,7 +29,7 @@ event_of Clear = 3
 abbrev pub ShowsGone : LuffaRecord → Event × GoneOf Key Value Answered → Type 0
 ShowsGone shown gone = (shown.key_len ≡ length gone.1.kept.key.bytes.items)
     × (shown.value_len ≡ length gone.1.kept.value.bytes.items) × (shown.weight ≡ gone.1.kept.weight)
-    × (shown.event ≡ event_of gone.0)
+    × (shown.event ≡ event_of gone.0) × (shown.owner ≡ gone.1.kept.value.owner)
 
 -- what a number names once its entry has ended: what left with that, if there is a listener
 abbrev pub last_of : Bool → Option (Event × GoneOf Key Value Answered) → Option Hold
@@ -53,6 +53,8 @@ ReleasesHeld (Gone _) number status old new = (status ≡ 0) × (new.core ≡ ol
     × Updates old.holds new.holds number None
 ReleasesHeld (Left _) number status old new = (status ≡ 0) × (new.core ≡ old.core)
     × Updates old.holds new.holds number None
+ReleasesHeld (Listed _) number status old new = (status ≡ 0) × (new.core ≡ old.core)
+    × Updates old.holds new.holds number None
 
 -- a number is released, or names nothing
 abbrev pub Releases : Option Hold → ℕ → ℕ → ByteCache → ByteCache → Type 0
@@ -67,6 +69,7 @@ HeldAnswers Waiting number status shown = status ≡ 103
 HeldAnswers (Refused refusal) number status shown = status ≡ refusal
 HeldAnswers (Gone _) number status shown = status ≡ 101
 HeldAnswers (Left _) number status shown = status ≡ 101
+HeldAnswers (Listed _) number status shown = status ≡ 101
 
 -- so of a number, which may name nothing
 abbrev pub NumberAnswers : Option Hold → ℕ → ℕ → LuffaRecord → Type 0
@@ -90,6 +93,7 @@ left_in Waiting index = None
 left_in (Refused _) index = None
 left_in (Gone gone) index = Some gone
 left_in (Left leaves) index = slice_get leaves.items index
+left_in (Listed _) index = None
 
 abbrev pub left_at : Option Hold → ℕ → Option (Event × GoneOf Key Value Answered)
 left_at None index = None

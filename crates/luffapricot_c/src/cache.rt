@@ -1,19 +1,21 @@
 //! The cache behind the address that C holds: of bytes by bytes, of one shard, of any of the five policies.
 
-ghost use Rattle.std.specs.Prelude.{◌≡◌, [], IfErr, IfOk, None, length};
+ghost use Rattle.std.specs.Prelude.{◌≡◌, [], IfErr, IfOk, None};
 ghost use Rattle.foyer_policy.specs.Any.{any};
 ghost use Rattle.foyer_policy.specs.Errors.{number_of};
-ghost use Rattle.luffapricot_c.specs.Bytes.{copied_into, expiry_of, plain, properties_of};
+ghost use Rattle.luffapricot_c.specs.Bytes.{expiry_of, plain, properties_of};
 ghost use Rattle.foyer_core.specs.Core.{entries_of_core, usage_of_core};
 ghost use Rattle.foyer_core.specs.Cores.{core_of, meaning_of_core};
 ghost use Rattle.luffapricot_c.specs.Opening.{IsOpened, refused_with};
-ghost use Rattle.luffapricot_c.specs.Calls.{FindsKey, GetsCopy, GetsEntry, Inserts, InsertsBytes, InsertsEntry, RemovesEntry, TouchesKey};
+ghost use Rattle.luffapricot_c.specs.Calls.{FindsKey, GetsEntry, Inserts, InsertsBytes, InsertsEntry, RemovesEntry, TouchesKey};
 
-use crate::hold::{Entry, Gone, Hold};
+use crate::hold::{Gone, Hold};
 use crate::key::{Key, copied};
 use crate::record::LuffaRecord;
 use crate::value::{GivenWeight, Value};
-use foyer_core::{AdmitAll, CacheCore, CacheProperties, InsertedOnto, Limits, RawCacheConfig};
+use foyer_core::{
+    AdmitAll, CacheCore, CacheProperties, InsertedOnto, Limits, PutOnto, RawCacheConfig,
+};
 use foyer_policy::{AnyEviction, Event, EvictionConfig, Hint, ModHasher, Properties, Result};
 use slab::Slab;
 use std::alloc::Global;
@@ -21,6 +23,8 @@ use std::alloc::Global;
 mod bulk;
 mod fetches;
 mod holds;
+mod reads;
+mod walks;
 
 use holds::{answer, forget_left, hold};
 
@@ -131,7 +135,8 @@ impl ByteCache {
         }
     }
 
-    /// Inserts a record. It never expires if `expires` is 0.
+    /// Inserts a record, and holds no handle to it. It never expires if `expires` is 0.
+    #[inline(always)]
     pub(crate) fn insert(
         &mut self,
         now: u64,
@@ -143,16 +148,27 @@ impl ByteCache {
     ) -> Result<()>
         ensures { Inserts now hash key.now bytes.now weight (plain (expiry_of expires)) result self.old self.new }
     {
-        match self.insert_with(now, hash, key, bytes, weight, plain_properties(expires)) {
+        let key = Key::new(self.alloc, hash, key)?;
+        let copy = copied(self.alloc, bytes)?;
+        let value = Value {
+            bytes: copy,
+            weight,
+            owner: 0,
+        };
+        let put = self
+            .core
+            .put_onto(now, key, value, plain_properties(expires), &mut self.left);
+        forget_left(&mut self.left, self.has_listener);
+        match put {
             Ok(
-                InsertedOnto {
-                    entry,
+                PutOnto {
+                    last,
                     answers: waiting,
                 },
             ) => {
+                // A record that is not phantom stays when its handle ends.
+                drop(last);
                 answer(&mut self.holds, waiting);
-                // A record that is not phantom stays when its handle is dropped.
-                drop(self.core.drop_entry(entry));
                 Ok(())
             }
             Err(error) => Err(error),
@@ -166,13 +182,14 @@ impl ByteCache {
         hash: u64,
         key: &[u8],
         bytes: &[u8],
+        owner: u64,
         terms: &LuffaTerms,
         shown: &mut LuffaRecord,
     ) -> Result<()>
-        ensures { InsertsEntry now hash key.now bytes.now terms.now.weight (properties_of terms.now) result shown.new self.old self.new }
+        ensures { InsertsEntry now hash key.now bytes.now owner terms.now.weight (properties_of terms.now) result shown.new self.old self.new }
     {
         self.holds.reserve(1)?;
-        match self.insert_with(now, hash, key, bytes, terms.weight, terms.properties()) {
+        match self.insert_with(now, hash, key, bytes, owner, terms) {
             Ok(InsertedOnto { entry, answers }) => {
                 hold(&mut self.holds, entry, shown);
                 answer(&mut self.holds, answers);
@@ -189,46 +206,24 @@ impl ByteCache {
         hash: u64,
         key: &[u8],
         bytes: &[u8],
-        weight: usize,
-        properties: CacheProperties,
+        owner: u64,
+        terms: &LuffaTerms,
     ) -> Result<Made>
-        ensures inserted { InsertsBytes now hash key.now bytes.now weight properties result self.old self.new }
+        ensures inserted { InsertsBytes now hash key.now bytes.now owner terms.now.weight (properties_of terms.now) result self.old self.new }
         ensures rest { self.new ≡ record self.old { core = self.new.core; left = self.new.left } }
     {
         let key = Key::new(self.alloc, hash, key)?;
         let copy = copied(self.alloc, bytes)?;
         let value = Value {
             bytes: copy,
-            weight,
+            weight: terms.weight,
+            owner,
         };
         let made = self
             .core
-            .insert_with_properties_onto(now, key, value, properties, &mut self.left);
+            .insert_with_properties_onto(now, key, value, terms.properties(), &mut self.left);
         forget_left(&mut self.left, self.has_listener);
         made
-    }
-
-    /// Looks a record up and copies its value, or the part of it that fits. The length of the value, if there is one.
-    #[inline(always)]
-    pub(crate) fn get(
-        &mut self,
-        now: u64,
-        hash: u64,
-        key: &[u8],
-        out: &mut [u8],
-    ) -> Result<Option<usize>>
-        ensures { GetsCopy now hash key.now out.old result out.new self.old self.new }
-    {
-        self.asked.set(hash, key)?;
-        match self.core.get(now, &self.asked) {
-            Ok(Some(entry)) => {
-                let len = copy_value(&entry, out);
-                drop(self.core.drop_entry(entry));
-                Ok(Some(len))
-            }
-            Ok(None) => Ok(None),
-            Err(error) => Err(error),
-        }
     }
 
     /// Looks a record up and holds a handle to it. Whether there is one.
@@ -309,28 +304,4 @@ fn plain_properties(expires: u64) -> CacheProperties
 {
     let expiry = if expires == 0 { None } else { Some(expires) };
     CacheProperties::default().with_expiry(expiry)
-}
-
-// Copies the value of an entry, or the part of it that fits. Returns the length of the value.
-#[inline(always)]
-fn copy_value(entry: &Entry, out: &mut [u8]) -> usize
-    ensures len { result ≡ length (entry.now.kept.value.bytes).items }
-    ensures copied { out.new ≡ copied_into (entry.now.kept.value.bytes).items out.old }
-{
-    let bytes = entry.value().bytes.as_slice();
-    copy_part(bytes, out);
-    bytes.len()
-}
-
-// Copies bytes, or the first ones that fit.
-#[inline(always)]
-fn copy_part(bytes: &[u8], out: &mut [u8])
-    ensures { out.new ≡ copied_into bytes.now out.old }
-{
-    if bytes.len() <= out.len() {
-        out[..bytes.len()].copy_from_slice(bytes);
-    } else {
-        let room = out.len();
-        out.copy_from_slice(&bytes[..room]);
-    }
 }

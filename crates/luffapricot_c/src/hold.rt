@@ -5,11 +5,13 @@ ghost use Rattle.std.specs.Prelude.{◌≡◌};
 use crate::key::Key;
 use crate::record::LuffaRecord;
 use crate::value::Value;
-use foyer_core::{CacheProperties, CoreEntry, Leave};
+use foyer_core::{CacheProperties, CoreEntry, Leave, Piece};
 
 pub(crate) type Entry = CoreEntry<Key, Value, CacheProperties>;
 
 pub(crate) type Gone = Leave<Key, Value, CacheProperties>;
+
+pub(crate) type Listed = Piece<Key, Value, CacheProperties>;
 
 /// What a number names.
 pub(crate) enum Held {
@@ -23,6 +25,8 @@ pub(crate) enum Held {
     Gone(Gone),
     /// Records that left, in order.
     Left(Vec<Gone>),
+    /// Records that were resident when they were listed, in the policy's order.
+    Listed(Vec<Listed>),
 }
 
 /// What C holds by a number. If the cache ends first, a handle is discarded with it.
@@ -37,6 +41,7 @@ impl Drop for Hold {
             Held::Entry(entry) => entry.discard(),
             Held::Gone(gone) => drop(gone),
             Held::Left(left) => drop(left),
+            Held::Listed(listed) => drop(listed),
             Held::Waiting | Held::Refused(_) => (),
         }
     }

@@ -7,7 +7,7 @@ ghost use Rattle.std.specs.Prelude.{◌≡◌, ◌≢◌, true};
 ghost use Rattle.slab.specs.Slab.{get};
 ghost use Rattle.std.specs.Prelude.{is_some, IfNone, IfSome, IsSome, None, Some, if◌then◌else◌, is_some};
 ghost use Rattle.luffapricot_c.specs.Bytes.{expiry_of, plain, properties_of};
-ghost use Rattle.luffapricot_c.specs.Calls.{FindsKey, GetsCopy, GetsEntry, Inserts, InsertsEntry, OnHeld, RemovesEntry, TouchesKey};
+ghost use Rattle.luffapricot_c.specs.Calls.{FindsKey, GetsCopy, GetsEntry, Inserts, InsertsEntry, OnHeld, PeeksCopy, RemovesEntry, TouchesKey};
 ghost use Rattle.luffapricot_c.specs.Opening.{Creates};
 ghost use Rattle.luffapricot_c.specs.Policies.{config_of};
 ghost use Rattle.luffapricot_c.specs.Releases.{Releases};
@@ -31,6 +31,7 @@ mod policy;
 mod record;
 mod status;
 mod value;
+mod walks;
 
 pub use bulk::LuffaLoad;
 pub use cache::LuffaTerms;
@@ -157,7 +158,8 @@ pub extern "C" fn luffa_shard_insert(
     status
 }
 
-/// Inserts a record and holds a handle to it, which the record names. 0, NOT_OPEN, or 7 to 10 for F7 to F10.
+/// Inserts a record and holds a handle to it, which the record names. `owner` is 0, or a number that the caller gives in
+/// place of bytes, and that is shown with the record. 0, NOT_OPEN, or 7 to 10 for F7 to F10.
 #[unsafe(no_mangle)]
 pub extern "C" fn luffa_shard_insert_entry(
     shard: &mut LuffaShard,
@@ -166,16 +168,17 @@ pub extern "C" fn luffa_shard_insert_entry(
     hash: u64,
     key: &[u8],
     value: &[u8],
+    owner: u64,
     terms: &LuffaTerms,
     shown: &mut LuffaRecord,
 ) -> u32
-    ensures { OnHeld (λ old status new. Tells done_of (λ answer. InsertsEntry {A = Unit {0}} now hash key.now value.now terms.now.weight (properties_of terms.now) answer shown.new old new) status)
+    ensures { OnHeld (λ old status new. Tells done_of (λ answer. InsertsEntry {A = Unit {0}} now hash key.now value.now owner terms.now.weight (properties_of terms.now) answer shown.new old new) status)
         shard.old.address.held result shard.new.address.held }
 {
     let Some(mut cache) = shard.take(alloc) else {
         return status::NOT_OPEN;
     };
-    let status = status::done(cache.insert_entry(now, hash, key, value, terms, shown));
+    let status = status::done(cache.insert_entry(now, hash, key, value, owner, terms, shown));
     *shard = LuffaShard::of(cache);
     status
 }
@@ -198,6 +201,29 @@ pub extern "C" fn luffa_shard_get(
         return status::NOT_OPEN;
     };
     let status = status::copied(cache.get(now, hash, key, out), len);
+    *shard = LuffaShard::of(cache);
+    status
+}
+
+/// Copies the value that a lookup would find, or the part of it that fits, and writes its length. It counts no use. 0,
+/// MISSING, NOT_OPEN, or 7 for F7.
+#[unsafe(no_mangle)]
+pub extern "C" fn luffa_shard_peek(
+    shard: &mut LuffaShard,
+    alloc: Global,
+    now: u64,
+    hash: u64,
+    key: &[u8],
+    out: &mut [u8],
+    len: &mut usize,
+) -> u32
+    ensures { OnHeld (λ old status new. Tells copied_of (λ answer. PeeksCopy now hash key.now out.old answer out.new old new × (len.new ≡ len_of answer len.old)) status)
+        shard.old.address.held result shard.new.address.held }
+{
+    let Some(mut cache) = shard.take(alloc) else {
+        return status::NOT_OPEN;
+    };
+    let status = status::copied(cache.peek(now, hash, key, out), len);
     *shard = LuffaShard::of(cache);
     status
 }

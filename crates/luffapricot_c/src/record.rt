@@ -2,8 +2,9 @@
 
 ghost use Rattle.std.specs.Prelude.{◌≡◌, length, vec_len};
 ghost use Rattle.luffapricot_c.specs.Releases.{ShowsGone};
+ghost use Rattle.luffapricot_c.specs.Walks.{ShowsListed};
 
-use crate::hold::{Entry, Gone};
+use crate::hold::{Entry, Gone, Listed};
 use crate::status;
 use std::ptr;
 
@@ -18,6 +19,7 @@ pub struct LuffaRecord {
     pub weight: usize,
     pub number: usize,
     pub event: u32,
+    pub owner: u64,
 }
 
 // The address of bytes, or null if there are none.
@@ -36,6 +38,7 @@ impl LuffaRecord {
         ensures key_len { self.new.key_len ≡ length (entry.now.kept.key.bytes).items }
         ensures value_len { self.new.value_len ≡ length (entry.now.kept.value.bytes).items }
         ensures weight { self.new.weight ≡ entry.now.kept.weight }
+        ensures owner { self.new.owner ≡ entry.now.kept.value.owner }
     {
         let key = entry.key().bytes.as_slice();
         let value = entry.value().bytes.as_slice();
@@ -44,6 +47,7 @@ impl LuffaRecord {
         self.value = address(value);
         self.value_len = value.len();
         self.weight = entry.weight();
+        self.owner = entry.value().owner;
     }
 
     /// Shows a record that left.
@@ -59,5 +63,20 @@ impl LuffaRecord {
         self.value_len = value.len();
         self.weight = left.weight();
         self.event = status::event(*event);
+        self.owner = left.value().owner;
+    }
+
+    /// Shows a record that was listed.
+    pub(crate) fn show_listed(&mut self, listed: &Listed)
+        ensures { ShowsListed self.new listed.now }
+    {
+        let key = listed.key().bytes.as_slice();
+        let value = listed.value().bytes.as_slice();
+        self.key = address(key);
+        self.key_len = key.len();
+        self.value = address(value);
+        self.value_len = value.len();
+        self.weight = listed.value().weight;
+        self.owner = listed.value().owner;
     }
 }

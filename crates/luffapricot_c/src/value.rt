@@ -3,11 +3,13 @@
 use crate::key::Bytes;
 use foyer_core::Weighter;
 
-/// A value, and what it counts against the capacity.
+/// A value, what it counts against the capacity, and who owns it.
 #[derive(Drop)]
 pub struct Value {
     pub(crate) bytes: Bytes,
     pub(crate) weight: usize,
+    // What the caller named by a number in place of bytes, or 0.
+    pub(crate) owner: u64,
 }
 
 /// Each record weighs what its value says.

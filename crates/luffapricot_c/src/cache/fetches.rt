@@ -77,6 +77,7 @@ impl ByteCache {
         let value = Value {
             bytes: copy,
             weight: terms.weight,
+            owner: 0,
         };
         let target = FetchTarget::Entry {
             value,

@@ -147,6 +147,10 @@ impl ByteCache {
                 drop(left);
                 status::OK
             }
+            Held::Listed(listed) => {
+                drop(listed);
+                status::OK
+            }
         }
     }
 

@@ -14,8 +14,8 @@ returns c =
     taken_is c.args.self.now.left.items _ _ _ _ none record {
       own = c.set.new.self;
       own_is = (c.in_ok-set.ensures.hash, c.in_ok-set.ensures.bytes);
-      value = record { bytes = c.in_ok-copy.copy; weight = c.args.terms.now.weight };
-      value_is = (c.in_ok-copy.ensures.bytes, refl);
+      value = record { bytes = c.in_ok-copy.copy; weight = c.args.terms.now.weight; owner = 0 };
+      value_is = (c.in_ok-copy.ensures.bytes, refl, refl);
       ended = c.complete-found.result;
       completes = rw c.properties.ensures at c.complete-found.ensures.completed;
       status_is = c.of_open.ensures;

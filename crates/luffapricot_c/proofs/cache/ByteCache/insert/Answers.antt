@@ -1,13 +1,45 @@
-use Rattle.std.proofs.Common.{◌∙◌, ap, refl}
-use Rattle.luffapricot_c.specs.Holds.{given}
+use Rattle.std.proofs.Common.{inr, refl}
+use Rattle.luffapricot_c.proofs.CallLemmas.{told_more}
+use Rattle.luffapricot_c.proofs.Clones.{key_clone}
 use Rattle.luffapricot_c.proofs.cache.ByteCache.insert.Goals as goal
 
+pub put_onto-put-requires-clause-clones : goal.put_onto-put-requires-clause-clones
+put_onto-put-requires-clause-clones c κs = λ k c' clone.
+    key_clone k.hash c'.hash k.bytes.items c'.bytes.items clone.0 clone.1
+
 pub returns-in-Ok : goal.returns-in-Ok
-returns-in-Ok c = (
-  c.in-Ok.field-0,
-  c.insert_with.new.self,
-  rw c.plain_properties.ensures at c.in-Ok.ensures.inserted,
-  (c.drop_entry.result, record { owned = c.drop_entry.ensures.owned; foreign = c.drop_entry.ensures.foreign }),
-  c.answer.ensures ∙ ap (λ h. given c.in-Ok.field-0.answers h) (ap (λ s. s.holds) c.in-Ok.ensures.rest),
-  record { held = refl; fetches = c.drop_entry.ensures.fetches; left = refl; listener = refl },
-)
+returns-in-Ok c =
+    let went = c.in-Ok.ensures.puts in (
+      c.in-Ok.field-0,
+      record {
+        own = c.in_ok-key.key;
+        own_is = (c.in_ok-key.ensures.hash, c.in_ok-key.ensures.bytes);
+        value = record { bytes = c.in_ok-copy.copy; weight = c.args.weight; owner = 0 };
+        value_is = (c.in_ok-copy.ensures.bytes, refl, refl);
+        leaves = went.more;
+        puts = rw c.plain_properties.ensures at went.so;
+        answered = c.in-Ok.ensures.fetches;
+        told = told_more c.args.self.now.has_listener c.args.self.now.left.items went.more c.put_onto-put.new.leaves.items
+            c.forget_left.new.left.items went.told c.forget_left.ensures;
+        rest = record { held = refl; fetches = refl; left = refl; listener = refl };
+      },
+      c.answer.ensures,
+    )
+
+pub returns-in-Err : goal.returns-in-Err
+returns-in-Err c =
+    let went = c.in-Err.ensures.puts in inr (
+      record {
+        own = c.in_ok-key.key;
+        own_is = (c.in_ok-key.ensures.hash, c.in_ok-key.ensures.bytes);
+        value = record { bytes = c.in_ok-copy.copy; weight = c.args.weight; owner = 0 };
+        value_is = (c.in_ok-copy.ensures.bytes, refl, refl);
+        leaves = went.more;
+        puts = rw c.plain_properties.ensures at went.so;
+        answered = c.in-Err.ensures.fetches;
+        told = told_more c.args.self.now.has_listener c.args.self.now.left.items went.more c.put_onto-put.new.leaves.items
+            c.forget_left.new.left.items went.told c.forget_left.ensures;
+        rest = record { held = refl; fetches = refl; left = refl; listener = refl };
+      },
+      record { held = refl; fetches = c.in-Err.ensures.fetches; left = refl; listener = refl },
+    )

@@ -10,7 +10,7 @@ hold-requires c = record {
 
 pub returns-in-Ok : goal.returns-in-Ok
 returns-in-Ok c =
-    let i = rw c.properties.ensures at c.in-Ok.ensures.inserted in (
+    let i = c.in-Ok.ensures.inserted in (
       c.in-Ok.field-0,
       c.hold.new.holds,
       record {
@@ -31,7 +31,7 @@ returns-in-Ok c =
     )
 
 pub returns-in-Err : goal.returns-in-Err
-returns-in-Err c = failed_same c.args.now c.args.hash c.args.key.now c.args.bytes.now c.args.terms.now.weight
+returns-in-Err c = failed_same c.args.now c.args.hash c.args.key.now c.args.bytes.now c.args.owner c.args.terms.now.weight
     (properties_of c.args.terms.now) c.in-Err.error c.args.self.now c.insert_with.new.self c.reserve.new.self
     (ap (λ h. h.slots) c.in_ok-reserve.ensures.rest_kept)
-    (rw c.properties.ensures at c.in-Err.ensures.inserted)
+    c.in-Err.ensures.inserted

@@ -1,4 +1,5 @@
 use Rattle.std.proofs.Common.{refl}
+use Rattle.luffapricot_c.specs.Bytes.{properties_of}
 use Rattle.luffapricot_c.specs.Calls.{CoreInserts}
 use Rattle.luffapricot_c.specs.declared.cache.ByteCache.{ByteCache}
 use Rattle.luffapricot_c.proofs.CallLemmas.{answers_waiting, inserts_bytes, told_more}
@@ -15,18 +16,18 @@ returns-clause-inserted c =
     let made = c.insert_with_properties_onto-made in
     let new : ByteCache = record c.args.self.now { core = made.new.self; left = c.forget_left.new.left } in
     let went = made.ensures.inserted in
-    let did : CoreInserts c.args.now c.args.hash c.args.key.now c.args.bytes.now c.args.weight c.args.properties
-    made.result old new = record {
+    let did : CoreInserts c.args.now c.args.hash c.args.key.now c.args.bytes.now c.args.owner c.args.terms.now.weight
+    (properties_of c.args.terms.now) made.result old new = record {
       own = c.in_ok-key.key;
       own_is = (c.in_ok-key.ensures.hash, c.in_ok-key.ensures.bytes);
-      value = record { bytes = c.in_ok-copy.copy; weight = c.args.weight };
-      value_is = (c.in_ok-copy.ensures.bytes, refl);
+      value = record { bytes = c.in_ok-copy.copy; weight = c.args.terms.now.weight; owner = c.args.owner };
+      value_is = (c.in_ok-copy.ensures.bytes, refl, refl);
       leaves = went.more;
-      inserts = went.so;
+      inserts = rw c.properties.ensures at went.so;
       answered = answers_waiting c.in_ok-key.key made.result old new made.ensures.fetches;
       told = told_more c.args.self.now.has_listener c.args.self.now.left.items went.more made.new.leaves.items
           c.forget_left.new.left.items went.told c.forget_left.ensures;
       rest = record { held = refl; fetches = refl; left = refl; listener = refl };
     } in
-    inserts_bytes c.args.now c.args.hash c.args.key.now c.args.bytes.now c.args.weight c.args.properties made.result old
-    new did refl
+    inserts_bytes c.args.now c.args.hash c.args.key.now c.args.bytes.now c.args.owner c.args.terms.now.weight
+    (properties_of c.args.terms.now) made.result old new did refl

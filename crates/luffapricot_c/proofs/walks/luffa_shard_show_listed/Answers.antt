@@ -1,0 +1,10 @@
+use Rattle.std.proofs.Common.{refl}
+use Rattle.luffapricot_c.proofs.HeldLemmas.{on_held, on_none}
+use Rattle.luffapricot_c.proofs.walks.luffa_shard_show_listed.Goals as goal
+
+pub returns-in_default : goal.returns-in_default
+returns-in_default c = on_none _ _ _ c.in_default.ensures.none c.take.ensures.empty
+
+pub returns : goal.returns
+returns c = on_held _ c.in-Some.cache.value c.in-Some.cache.value _ _ _ c.in-Some.ensures.taken c.of.ensures
+    ((c.show_listed.result, rw c.deref.ensures at c.show_listed.ensures, c.of_open-status.ensures), refl)
