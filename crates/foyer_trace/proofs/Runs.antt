@@ -3,7 +3,7 @@ use Rattle.std.proofs.Common.{◌≡◌, ◌∙◌, ◌+◌, ◌-◌, ◌<◌, �
 use Rattle.std.proofs.lemmas.List.{drop_more}
 use Rattle.std.specs.Prelude.{slice_index_or}
 use Rattle.foyer_replay.proofs.Counting.{counted_joined, counted_none}
-use Rattle.foyer_replay.specs.Replay.{serves_of}
+use Rattle.foyer_replay.specs.Cores.{serves_of}
 use Rattle.foyer_replay.specs.declared.request.Request.{Request}
 use Rattle.foyer_trace.specs.Runs.{Serves}
 use Rattle.foyer_trace.specs.Trace.{requests_of, requests_of_part}

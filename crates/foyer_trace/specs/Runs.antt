@@ -1,9 +1,8 @@
 -- What a run over requests comes to by the core's model.
 use Rattle.std.specs.Prelude.{◌≡◌, ℕ, List, ⊤}
+use Rattle.foyer_replay.specs.Cores.{core_of, serves_of}
 use Rattle.foyer_replay.specs.Counting.{Counted}
-use Rattle.foyer_replay.specs.Replay.{serves_of}
 use Rattle.foyer_replay.specs.declared.request.Request.{Request}
-use Rattle.foyer_core.specs.Cores.{core_of}
 use Rattle.foyer_trace.specs.declared.runner.Core.{Core}
 use Rattle.foyer_trace.specs.declared.runner.Core.TheVariants.{Fifo, Lru, Lfu, S3Fifo, Sieve, Belady}
 
