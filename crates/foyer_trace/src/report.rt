@@ -1,6 +1,7 @@
 //! What the runs came to, for the table, the CSV file and the pictures.
 
 ghost use Rattle.std.specs.Prelude.{◌≡◌, IfOk, None};
+ghost use Rattle.foyer_trace.specs.Rows.{AreRowsOf};
 
 use crate::failure::Failure;
 use crate::number::{bytes, float, part_of, quotient};
@@ -127,6 +128,25 @@ impl Scale {
     }
 }
 
+// The rows of a plan's runs, in their order.
+fn all_rows(
+    alloc: Global,
+    plan: &Plan<'_>,
+    measured: &[Measured],
+    scale: Option<Scale>,
+) -> Result<Vec<Row>, Failure>
+    ensures { scale ≡ None → IfOk result (λ rows. AreRowsOf rows.items measured.now) }
+{
+    let mut rows = Vec::new(alloc);
+    for number in 0..measured.len() {
+        let Some((policy, capacity)) = plan.run(number) else {
+            break;
+        };
+        rows.push(Row::new(policy, alloc, capacity.shown, &measured[number], scale)?)?;
+    }
+    Ok(rows)
+}
+
 /// What all runs came to.
 #[derive(Drop)]
 pub struct Report {
@@ -156,14 +176,10 @@ impl Report {
         totals: &Totals,
         scale: Option<Scale>,
         notes: Vec<String>,
-    ) -> Result<Report, Failure> {
-        let mut rows = Vec::new(alloc);
-        for (number, it) in measured.iter().enumerate() {
-            let Some((policy, capacity)) = plan.run(number) else {
-                break;
-            };
-            rows.push(Row::new(policy, alloc, capacity.shown, it, scale)?)?;
-        }
+    ) -> Result<Report, Failure>
+        ensures rows { scale ≡ None → IfOk result (λ report. AreRowsOf report.rows.items measured.now) }
+    {
+        let rows = all_rows(alloc, plan, measured, scale)?;
         let mut policies = Vec::new(alloc);
         for policy in plan.policies {
             policies.push(policy.label(alloc)?)?;
