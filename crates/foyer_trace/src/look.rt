@@ -20,8 +20,8 @@ enum Marker {
     Plus,
 }
 
-// The colours are those of Okabe and Ito, which the colour-blind tell apart.
-const LOOKS: [Look; 6] = [
+// The first colours are those of Okabe and Ito, which the colour-blind tell apart; the others are as dark.
+const LOOKS: [Look; 12] = [
     Look {
         colour: "#0072B2",
         dashes: "none",
@@ -52,9 +52,40 @@ const LOOKS: [Look; 6] = [
         dashes: "1 4",
         marker: Marker::Plus,
     },
+    Look {
+        colour: "#5B4FC4",
+        dashes: "12 3",
+        marker: Marker::Square,
+    },
+    Look {
+        colour: "#B3123A",
+        dashes: "4 2",
+        marker: Marker::Triangle,
+    },
+    Look {
+        colour: "#3E7D12",
+        dashes: "7 2 2 2",
+        marker: Marker::Diamond,
+    },
+    Look {
+        colour: "#6F4A2E",
+        dashes: "3 5",
+        marker: Marker::Cross,
+    },
+    Look {
+        colour: "#0E7C86",
+        dashes: "14 4 4 4",
+        marker: Marker::Plus,
+    },
+    Look {
+        colour: "#6B7280",
+        dashes: "6 6",
+        marker: Marker::Square,
+    },
 ];
 
-/// The look of the line of this number. From the seventh on the same colours and dashes have other markers.
+/// The look of the line of this number. From the thirteenth on the same colours and dashes have
+/// other markers.
 pub fn look_of(policy: usize) -> Look {
     let round = policy / LOOKS.len();
     Look {

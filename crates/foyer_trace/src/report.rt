@@ -3,12 +3,15 @@
 ghost use Rattle.std.specs.Prelude.{◌≡◌, IfOk, None};
 ghost use Rattle.foyer_trace.specs.Rows.{AreRowsOf};
 
+use crate::curve::Curve;
 use crate::failure::Failure;
 use crate::number::{bytes, float, part_of, quotient};
+use crate::origin::Origin;
 use crate::plan::Plan;
 use crate::policy::Policy;
 use crate::run::Measured;
 use crate::trace::Totals;
+use foyer_replay::Counts;
 use std::alloc::{AllocError, Global};
 use std::num::saturating_f64_to_u64;
 
@@ -74,6 +77,16 @@ impl Row {
     pub fn byte_miss_ratio(&self) -> f64 {
         quotient(self.miss_bytes, self.bytes)
     }
+}
+
+/// The miss ratio of counts, of which a sample's scale makes an estimate.
+pub fn ratio_of(counts: &Counts, scale: Option<Scale>) -> f64 {
+    let gets = counts.hits.saturating_add(counts.misses);
+    let requests = match scale {
+        Some(scale) => scale.requests(gets).max(counts.misses),
+        None => gets,
+    };
+    quotient(counts.misses as u128, requests as u128)
 }
 
 /// Which ratio of a run is shown.
@@ -164,6 +177,14 @@ pub struct Report {
     pub has_sizes: bool,
     /// What stands below the table.
     pub notes: Vec<String>,
+    /// What the rows are of.
+    pub origin: Origin,
+    /// The least size that is shown: a sample's smaller ones mean nothing.
+    pub shown_from: u64,
+    /// LRU at many sizes in ascending order, if its curve was asked for.
+    pub curve: Vec<Row>,
+    /// What each row's run counted in each window, if there are several.
+    pub windows: Vec<Vec<Counts>>,
 }
 
 impl Report {
@@ -196,7 +217,47 @@ impl Report {
             is_in_bytes: plan.terms.weighs_sizes,
             has_sizes: totals.has_sizes,
             notes,
+            origin: Origin::default(),
+            shown_from: 0,
+            curve: Vec::new(alloc),
+            windows: Vec::new(alloc),
         })
+    }
+
+    /// Puts the curve of LRU in. A sample's sizes are larger by its rate.
+    pub fn put_curve(
+        &mut self,
+        alloc: Global,
+        policy: &Policy<'_>,
+        curve: &Curve,
+        rate: f64,
+        scale: Option<Scale>,
+    ) -> Result<(), AllocError> {
+        let sizes = curve.sizes(alloc)?;
+        let counts = curve.counts(alloc, sizes.as_slice())?;
+        for (size, counts) in sizes.iter().zip(counts.iter()) {
+            let measured = Measured {
+                counts: *counts,
+                seconds: 0.0,
+            };
+            let shown = part_of(*size as u64, 1.0 / rate);
+            self.curve
+                .push(Row::new(policy, alloc, shown, &measured, scale)?)?;
+        }
+        Ok(())
+    }
+
+    /// The rows that a policy's line goes through.
+    pub fn drawn(&self, policy: usize) -> &[Row] {
+        let is_curve = self
+            .policies
+            .get(policy)
+            .is_some_and(|it| it.as_str() == "lru-curve");
+        if is_curve && !self.curve.is_empty() {
+            self.curve.as_slice()
+        } else {
+            self.rows_of(policy)
+        }
     }
 
     /// The rows of a policy, one for each size.
@@ -205,6 +266,11 @@ impl Report {
         let start = policy.saturating_mul(sizes).min(self.rows.len());
         let end = start.saturating_add(sizes).min(self.rows.len());
         &self.rows.as_slice()[start..end]
+    }
+
+    /// Whether a row's ratios are shown.
+    pub fn shows(&self, row: &Row) -> bool {
+        row.size >= self.shown_from
     }
 
     /// The measures that are shown.
@@ -242,7 +308,7 @@ impl Report {
             let Some(row) = self.rows_of(policy).get(column) else {
                 continue;
             };
-            if row.policy.as_str() == "belady" {
+            if row.policy.as_str() == "belady" || !self.shows(row) {
                 continue;
             }
             let ratio = measure.of(row);

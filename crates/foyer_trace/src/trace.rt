@@ -127,6 +127,21 @@ impl Part {
         self.keys.as_slice()
     }
 
+    /// The records from a place on to another.
+    pub fn slice(&self, alloc: Global, start: usize, end: usize) -> Result<Part, AllocError> {
+        let mut records = Vec::with_capacity(alloc, end.saturating_sub(start))?;
+        for place in start..end {
+            records.push(Record {
+                key: number_in(self.keys.as_slice(), place),
+                time: self.times.at(place),
+                size: self.sizes.at(place),
+                ttl: Some(self.ttls.at(place)).filter(|ttl| *ttl != EVER),
+                operation: self.operation(place),
+            })?;
+        }
+        Part::new(alloc, records.as_slice())
+    }
+
     /// What the record at a place asks.
     #[inline]
     pub fn operation(&self, place: usize) -> Operation
@@ -306,11 +321,24 @@ pub struct Totals {
     pub key_bytes: u128,
     /// Whether records have sizes.
     pub has_sizes: bool,
+    /// Whether some record lives for a time.
+    pub has_lives: bool,
+    /// The checksum of all records that were read.
+    pub checksum: u64,
 }
 
-/// A trace in memory.
+/// A trace in memory, or a window of one with what is known of the whole.
 #[derive(Drop)]
 pub struct Trace {
     pub parts: Vec<Part>,
     pub totals: Totals,
+}
+
+impl Trace {
+    /// How many records there are.
+    pub fn len(&self) -> u64 {
+        self.parts
+            .iter()
+            .fold(0u64, |sum, part| sum.saturating_add(part.len() as u64))
+    }
 }

@@ -1,0 +1,98 @@
+//! The files that a report is written to. They are opened before the runs, and keep what they had until these are done.
+
+use crate::failure::Failure;
+use crate::options::Outputs;
+use std::alloc::Global;
+use std::fs::{self, File, Files, OpenFile};
+use std::io::Write;
+
+/// A file that is open.
+#[derive(Drop)]
+pub struct Output<'a, F: Drop> {
+    path: &'a str,
+    file: F,
+}
+
+/// The files that are open.
+#[derive(Drop)]
+pub struct Opened<'a, F: Drop> {
+    pub csv: Option<Output<'a, F>>,
+    pub svg: Option<Output<'a, F>>,
+    pub html: Option<Output<'a, F>>,
+}
+
+/// Opens the files that are asked for, none of which may be the trace.
+pub fn open_files<'a, R: AllocGlobal + Files>(
+    rt: &R,
+    alloc: Global,
+    outputs: Outputs<'a>,
+    trace: &str,
+) -> Result<Opened<'a, R::File>, Failure> {
+    let paths = [outputs.csv, outputs.svg, outputs.html];
+    for (at, path) in paths.iter().enumerate() {
+        let Some(path) = path else {
+            continue;
+        };
+        let is_twice = paths
+            .iter()
+            .skip(at.saturating_add(1))
+            .any(|it| it.is_some_and(|it| it == *path));
+        if is_twice && !path.starts_with("/dev/") {
+            return Err(Failure::Usage(format!(in alloc; "two files of one name: {path}")?));
+        }
+        if trace != "-" && is_same_file(rt, path, trace) {
+            return Err(Failure::Usage(format!(in alloc;
+                "{path} is the trace, and would be written over"
+            )?));
+        }
+    }
+    Ok(Opened {
+        csv: open_file(rt, alloc, outputs.csv)?,
+        svg: open_file(rt, alloc, outputs.svg)?,
+        html: open_file(rt, alloc, outputs.html)?,
+    })
+}
+
+// Whether two paths lead to one file that is there.
+fn is_same_file<R: AllocGlobal + Files>(rt: &R, path: &str, other: &str) -> bool {
+    match (fs::canonicalize(rt, path), fs::canonicalize(rt, other)) {
+        (Ok(path), Ok(other)) => path == other,
+        _ => path == other,
+    }
+}
+
+fn open_file<'a, R: Files>(
+    rt: &R,
+    alloc: Global,
+    path: Option<&'a str>,
+) -> Result<Option<Output<'a, R::File>>, Failure> {
+    let Some(path) = path else {
+        return Ok(None);
+    };
+    let mut options = File::options();
+    options.write(true).create(true);
+    match options.open(rt, path) {
+        Ok(file) => Ok(Some(Output { path, file })),
+        Err(error) => Err(Failure::of_io(alloc, path, &error)),
+    }
+}
+
+impl<F: Write + OpenFile + Drop> Output<'_, F> {
+    /// Writes a text in the place of what the file had.
+    pub fn write(self, alloc: Global, text: &str) -> Result<(), Failure> {
+        let Output { path, file } = self;
+        match replace(file, text) {
+            Ok(()) => Ok(()),
+            Err(error) => Err(Failure::of_io(alloc, path, &error)),
+        }
+    }
+}
+
+fn replace<F: Write + OpenFile + Drop>(file: F, text: &str) -> std::io::Result<()> {
+    let mut file = file;
+    // A pipe or a device has no length.
+    if file.metadata()?.is_file() {
+        file.set_len(0)?;
+    }
+    file.write_all(text.as_bytes())
+}
