@@ -1,5 +1,5 @@
 -- The requests that a trace in columns stands for.
-use Rattle.std.specs.Prelude.{ℕ, ◌≡◌, ◌+◌, ◌-◌, ◌%◌, ◌^◌, ◌==◌, ◌<◌, ◌≤◌, if◌then◌else◌, Bool, true, false, List, [], ◌∷◌, ◌++◌, length, min, Option, None, Some, slice_index, slice_index_or, unwrap_or}
+use Rattle.std.specs.Prelude.{ℕ, ◌≡◌, ◌+◌, ◌-◌, ◌%◌, ◌^◌, ◌==◌, ◌<◌, ◌≤◌, if◌then◌else◌, Bool, true, false, List, [], ◌∷◌, ◌++◌, length, min, sum_by, Option, None, Some, slice_index, slice_index_or, unwrap_or}
 use Rattle.foyer_replay.specs.Counting.{listed}
 use Rattle.foyer_replay.specs.declared.request.Operation.{Operation}
 use Rattle.foyer_replay.specs.declared.request.Operation.TheVariants.{Get}
@@ -9,6 +9,7 @@ use Rattle.foyer_trace.specs.declared.trace.Column.{Column}
 use Rattle.foyer_trace.specs.declared.trace.Column.TheVariants.{Same, Narrow, Wide}
 use Rattle.foyer_trace.specs.declared.trace.Part.{Part}
 use Rattle.foyer_trace.specs.declared.trace.Terms.{Terms}
+use Rattle.foyer_trace.specs.declared.trace.Trace.{Trace}
 
 -- the number of a column at a place
 abbrev pub number_at : Column → ℕ → ℕ
@@ -73,3 +74,12 @@ requests_of_part terms part = listed (request_at part terms) 0 (length part.keys
 abbrev pub requests_of : Terms → List Part → List Request
 requests_of terms [] = []
 requests_of terms (part ∷ parts) = requests_of_part terms part ++ requests_of terms parts
+
+-- the requests of the windows of a trace
+abbrev pub requests_of_windows : Terms → List Trace → List Request
+requests_of_windows terms [] = []
+requests_of_windows terms (window ∷ windows) = requests_of terms window.parts.items ++ requests_of_windows terms windows
+
+-- how many records parts have
+abbrev pub records_in : List Part → ℕ
+records_in parts = sum_by (λ part. length part.keys.items) parts

@@ -1,7 +1,7 @@
 //! Runs each policy at each size over a trace in memory, in threads.
 
-ghost use Rattle.std.specs.Prelude.{◌≡◌, ◌+◌, IfOk};
-ghost use Rattle.foyer_trace.specs.Runs.{Serves};
+ghost use Rattle.std.specs.Prelude.{◌≡◌, ◌+◌, IfOk, sum_by};
+ghost use Rattle.foyer_trace.specs.Runs.{IsRun, Serves};
 ghost use Rattle.foyer_trace.specs.Trace.{requests_of};
 
 use crate::belady::Future;
@@ -178,20 +178,27 @@ pub fn run_core<R: Clock + Eprint>(
     futures: &[Future],
     plan: &Plan<'_>,
     progress: &Progress<'_, R>,
-) -> Result<Vec<Counts>, Failure> {
+) -> Result<Vec<Counts>, Failure>
+    ensures { IfOk result (λ windows. IsRun kind.now capacity plan.now.shards plan.now.terms plan.now.warmup trace.now
+        windows.items) }
+{
     let mut runner = Runner::new(alloc, kind, capacity, plan.shards, plan.terms)?;
     let mut windows = Vec::with_capacity(alloc, trace.len())?;
     let mut left = plan.warmup;
     for (number, window) in trace.iter().enumerate() {
         let future = futures.get(number);
-        windows.push(run_one(alloc, &mut runner, window, future, left, progress)?)?;
+        let counts = run_one(alloc, &mut runner, window, future, left, progress)?;
+        windows.push(counts)?;
         left = left.saturating_sub(window.len());
     }
     Ok(windows)
 }
 
 /// What was counted in all windows.
-pub fn sum_of_all(alloc: Global, windows: &[Counts]) -> Result<Counts, Failure> {
+pub fn sum_of_all(alloc: Global, windows: &[Counts]) -> Result<Counts, Failure>
+    ensures hits { IfOk result (λ sum. sum.hits ≡ sum_by (λ it. it.hits) windows.now) }
+    ensures misses { IfOk result (λ sum. sum.misses ≡ sum_by (λ it. it.misses) windows.now) }
+{
     let mut sum = Counts::default();
     for counts in windows {
         sum = sum_of(alloc, sum, *counts)?;
@@ -208,6 +215,7 @@ fn run_one<R: Clock + Eprint>(
     warmup: u64,
     progress: &Progress<'_, R>,
 ) -> Result<Counts, Failure>
+    ensures terms { runner.new.terms ≡ runner.old.terms }
     ensures counted { IfOk result (λ counts. Serves runner.old.core warmup
         (requests_of runner.old.terms trace.now.parts.items) counts.hits counts.misses runner.new.core) }
 {

@@ -1,8 +1,8 @@
 //! A trace in memory, in parts whose columns are as narrow as their numbers allow.
 
-ghost use Rattle.std.specs.Prelude.{◌≡◌, ℕ, ◌+◌, ◌-◌, ◌<◌, ◌^◌, IfOk, true, length, map, replicate, slice_index, slice_index_or};
+ghost use Rattle.std.specs.Prelude.{◌≡◌, ℕ, ◌+◌, ◌-◌, ◌<◌, ◌^◌, IfOk, true, length, map, min, replicate, slice_index, slice_index_or};
 ghost use Rattle.foyer_replay.specs.declared.request.Operation.TheVariants.{Get};
-ghost use Rattle.foyer_trace.specs.Trace.{AreWithin, HasNumbers, expiry_at, life_at, number_at, operation_at, request_at, request_of, requests_of_part, weight_at};
+ghost use Rattle.foyer_trace.specs.Trace.{AreWithin, HasNumbers, expiry_at, life_at, number_at, operation_at, records_in, request_at, request_of, requests_of_part, weight_at};
 
 use crate::record::Record;
 use foyer_replay::{Operation, Request, Requests};
@@ -335,10 +335,14 @@ pub struct Trace {
 }
 
 impl Trace {
-    /// How many records there are.
-    pub fn len(&self) -> u64 {
-        self.parts
-            .iter()
-            .fold(0u64, |sum, part| sum.saturating_add(part.len() as u64))
+    /// How many records there are, or 2^64 - 1 if there are more.
+    pub fn len(&self) -> u64
+        ensures { result ≡ min (records_in self.now.parts.items) (2 ^ 64 - 1) }
+    {
+        let mut count = 0u64;
+        for part in &self.parts {
+            count = count.saturating_add(part.len() as u64);
+        }
+        count
     }
 }
