@@ -14,7 +14,7 @@ use crate::trace::{Totals, Trace};
 use std::alloc::{AllocError, Global};
 use std::rt::Clock;
 
-/// Puts the curve of LRU in.
+/// Adds the points of LRU's curve to a report.
 pub fn put_curve(
     alloc: Global,
     report: &mut Report,
@@ -30,7 +30,7 @@ pub fn put_curve(
     Ok(())
 }
 
-/// Puts in what is recommended, if that is asked for.
+/// Adds a recommendation above the notes, if the user asked for one.
 pub fn put_recommendation<R: Clock + Eprint>(
     alloc: Global,
     report: &mut Report,
@@ -49,7 +49,7 @@ pub fn put_recommendation<R: Clock + Eprint>(
     Ok(())
 }
 
-/// The curve of LRU, if it is asked for.
+/// Computes LRU's curve, if the user asked for it.
 pub fn curve_of(
     alloc: Global,
     trace: &[Trace],
@@ -65,7 +65,7 @@ pub fn curve_of(
     Ok(Some(Curve::of(alloc, trace, plan.warmup, sizes.as_slice())?))
 }
 
-// The miss ratio of a choice's policy at twice its size, for which it is run again if need be.
+// Returns the miss ratio of a choice's policy at twice its size, and runs it once more if no run had that size.
 fn ratio_at_twice<R: Clock + Eprint>(
     alloc: Global,
     trace: &[Trace],
@@ -91,7 +91,7 @@ fn ratio_at_twice<R: Clock + Eprint>(
     Ok(Some(ratio_of(&counts, scale_of(replay, &totals))))
 }
 
-/// By what the counts of a sample are scaled.
+/// Returns the factors by which a sample's counts are scaled.
 pub fn scale_of(replay: &Replay<'_>, totals: &Totals) -> Option<Scale> {
     if replay.sample.rate < 1.0 && replay.part.is_none() {
         Some(Scale::of(totals, replay.sample.rate))

@@ -4,7 +4,7 @@ use crate::number::float;
 use crate::report::{Measure, Report};
 use std::alloc::{AllocError, Global};
 
-/// Where the axes stand.
+/// The edges of the plot within its panel.
 pub const LEFT: f64 = 86.0;
 
 pub const RIGHT: f64 = 591.0;
@@ -13,10 +13,10 @@ pub const TOP: f64 = 46.0;
 
 pub const BOTTOM: f64 = 370.0;
 
-/// The scale of a panel: where its sizes and its ratios stand.
+/// Maps sizes and ratios to the coordinates of a panel.
 #[derive(Clone, Copy)]
 pub struct Scale {
-    // The logarithms of the least and the greatest size.
+    // The decimal logarithms of the least and the greatest size.
     low: f64,
     high: f64,
     ratios: Ratios,
@@ -27,13 +27,13 @@ pub struct Scale {
 struct Ratios {
     // The ratio at the top.
     most: f64,
-    // How many steps lead up to it, and the decimal places that tell them apart.
+    // The number of steps up to it, and of decimal places in their labels.
     steps: u32,
     places: usize,
 }
 
 impl Scale {
-    /// The scale of a report's rows.
+    /// Creates the scale of a report's rows.
     pub fn new(report: &Report, measure: Measure) -> Scale {
         let (mut first, mut last) = (u64::MAX, 1);
         let rows = report.rows.iter().chain(report.curve.iter());
@@ -48,7 +48,7 @@ impl Scale {
         let least = float(first as u128).max(1.0);
         let greatest = float(last as u128).max(least);
         let (mut low, mut high) = (least.log10(), greatest.log10());
-        // So much has a tick.
+        // A span of half a power of ten has a tick.
         let missing = (0.5 - (high - low)).max(0.0);
         low = low - missing / 2.0;
         high = high + missing / 2.0;
@@ -59,13 +59,13 @@ impl Scale {
         }
     }
 
-    /// Where a size stands.
+    /// Returns the x coordinate of a size.
     pub fn x(self, size: f64) -> f64 {
         LEFT + 12.0
             + (RIGHT - LEFT - 24.0) * (size.max(1.0).log10() - self.low) / (self.high - self.low)
     }
 
-    /// A scale of ratios alone.
+    /// Creates a scale that has ratios alone.
     pub fn of_ratios(most: f64) -> Scale {
         Scale {
             low: 0.0,
@@ -80,14 +80,14 @@ impl Scale {
         at >= self.low - 0.001 && at <= self.high + 0.001
     }
 
-    /// Where a ratio stands.
+    /// Returns the y coordinate of a ratio.
     pub fn y(self, ratio: f64) -> f64 {
         BOTTOM - (BOTTOM - TOP) * ratio / self.ratios.most
     }
 }
 
-// The axis whose top is the next of 1, 0.8, 0.5, 0.4, 0.2, 0.1, 0.08 and so on that is not below a ratio. A ratio of 0 has
-// the whole axis.
+// Returns the axis whose top is the least of 1, 0.8, 0.5, 0.4, 0.2, 0.1, 0.08 and so on that is at least the ratio; of
+// 0 it is 1.
 fn ratios_up_to(ratio: f64) -> Ratios {
     let mut best = Ratios {
         most: 1.0,
@@ -119,7 +119,7 @@ fn ratios_up_to(ratio: f64) -> Ratios {
     best
 }
 
-/// Puts the axis of ratios in, with a line across for each tick.
+/// Draws the axis of ratios, with a line across at each tick.
 pub fn push_ratios(text: &mut String, scale: Scale, measure: Measure) -> Result<(), AllocError> {
     let Ratios {
         most,
@@ -142,7 +142,7 @@ pub fn push_ratios(text: &mut String, scale: Scale, measure: Measure) -> Result<
     )
 }
 
-// The line across at a ratio, and its label.
+// Draws the line across at a ratio, and its label.
 fn push_ratio(text: &mut String, ratio: f64, y: f64, places: usize) -> Result<(), AllocError> {
     let (start, end) = (LEFT, RIGHT);
     let edge = LEFT - 8.0;
@@ -159,7 +159,7 @@ fn push_ratio(text: &mut String, ratio: f64, y: f64, places: usize) -> Result<()
     text.push_str("</text>\n")
 }
 
-/// Puts the axis of sizes in.
+/// Draws the axis of sizes.
 pub fn push_sizes(
     alloc: Global,
     text: &mut String,
@@ -180,8 +180,8 @@ pub fn push_sizes(
     )
 }
 
-// Numbers of records: powers of ten, between them 2 and 5, or 2, 3, 5 and 7, where there is room. Labels stand as close as
-// they don't touch.
+// Draws ticks at powers of ten and at 2 and 5 times these, or at 2, 3, 5 and 7 times these if the span is short. Labels
+// are left out if they would touch.
 fn push_records(alloc: Global, text: &mut String, scale: Scale) -> Result<(), AllocError> {
     let span = scale.high - scale.low;
     let steps = if span < 1.0 {
@@ -210,7 +210,7 @@ fn push_records(alloc: Global, text: &mut String, scale: Scale) -> Result<(), Al
     Ok(())
 }
 
-// Numbers of bytes: powers of two, between them the middle where there is room.
+// Draws ticks at powers of two bytes, and halfway between them if the span is short.
 fn push_bytes(alloc: Global, text: &mut String, scale: Scale) -> Result<(), AllocError> {
     const UNITS: [&str; 7] = ["B", "KiB", "MiB", "GiB", "TiB", "PiB", "EiB"];
     let span = scale.high - scale.low;
@@ -239,7 +239,7 @@ fn push_bytes(alloc: Global, text: &mut String, scale: Scale) -> Result<(), Allo
     Ok(())
 }
 
-// The tick of so many units of bytes, if it is on the axis, and its label.
+// Draws the tick at a number of bytes and its label, if it is on the axis.
 fn push_power(
     alloc: Global,
     text: &mut String,
@@ -261,7 +261,7 @@ fn push_power(
     Ok(())
 }
 
-/// Puts a tick of the lower axis in.
+/// Draws a tick of the lower axis.
 pub fn push_tick(text: &mut String, x: f64, is_power: bool) -> Result<(), AllocError> {
     let end = BOTTOM + if is_power { 7.0 } else { 4.0 };
     write!(
@@ -270,7 +270,7 @@ pub fn push_tick(text: &mut String, x: f64, is_power: bool) -> Result<(), AllocE
     )
 }
 
-/// Puts a label of the lower axis in.
+/// Draws a label of the lower axis.
 pub fn push_size(text: &mut String, x: f64, label: &str) -> Result<(), AllocError> {
     let down = BOTTOM + 22.0;
     write!(
@@ -279,7 +279,7 @@ pub fn push_size(text: &mut String, x: f64, label: &str) -> Result<(), AllocErro
     )
 }
 
-// A number of records with its unit, such as `20k`.
+// Formats a number of records, such as `20k`.
 fn short(alloc: Global, size: f64) -> Result<String, AllocError> {
     let mut value = size;
     let mut unit = "";

@@ -1,4 +1,5 @@
-//! The least possible misses, by L. A. Belady, "A study of replacement algorithms for a virtual-storage computer" (1966).
+//! The least possible misses, by L. A. Belady, "A study of replacement algorithms for a virtual-storage computer"
+//! (1966).
 
 use crate::trace::{Part, Trace};
 use foyer_replay::{Counts, Operation};
@@ -110,7 +111,8 @@ impl Belady {
         Ok(counts)
     }
 
-    // Serves a record whose key is next got then, and returns whether it was resident and whether another one was evicted.
+    // Serves a record whose key is next got then, and returns whether it was resident and whether another one was
+    // evicted.
     fn meet(&mut self, operation: Operation, next: u32) -> Result<(bool, bool), AllocError> {
         let is_hit = self.resident.remove(&self.number);
         self.number = self.number.saturating_add(1);

@@ -1,12 +1,13 @@
-//! The curve of textbook LRU over all sizes, in one pass over a trace: R. L. Mattson and others, "Evaluation techniques for
-//! storage hierarchies" (1970), with sums by P. M. Fenwick, "A new data structure for cumulative frequency tables" (1994).
+//! The curve of textbook LRU over all sizes, in one pass over a trace: R. L. Mattson and others, "Evaluation techniques
+//! for storage hierarchies" (1970), with sums by P. M. Fenwick, "A new data structure for cumulative frequency tables"
+//! (1994).
 
 use crate::trace::{Part, Totals, Trace};
 use foyer_replay::{Counts, Operation};
 use std::alloc::{AllocError, Global};
 use std::collections::{BTreeSet, HashMap};
 
-/// Slots that are used or not, and how many are used before each.
+/// A set of slots that counts the used ones before a slot in O(log n).
 #[derive(Drop)]
 struct Slots {
     sums: Vec<u32>,
@@ -19,7 +20,7 @@ impl Slots {
         })
     }
 
-    // Uses a slot, or frees it.
+    // Marks a slot as used or free.
     fn set(&mut self, slot: usize, is_used: bool) {
         let mut at = slot.saturating_add(1);
         for _bit in 0..usize::BITS {
@@ -35,7 +36,7 @@ impl Slots {
         }
     }
 
-    // How many slots are used before one.
+    // Counts the used slots before one.
     fn before(&self, slot: usize) -> usize {
         let mut at = slot;
         let mut count = 0usize;
@@ -50,8 +51,8 @@ impl Slots {
     }
 }
 
-/// All keys, the one that was used last at the top, so that the cache of each size has the keys down to that depth. A removed
-/// key leaves a hole, which is room in the caches that are at least as large.
+/// All keys, the last used at the top, so that a cache holds the keys down to the depth of its size. A removed key
+/// leaves a hole, which is free room in caches of that depth or more.
 #[derive(Drop)]
 struct Stack {
     slots: Slots,
@@ -61,12 +62,12 @@ struct Stack {
     used: usize,
 }
 
-/// What the use of a key comes to.
+/// The outcome of a use of a key.
 #[derive(Clone, Copy)]
 struct Touched {
-    // The key's depth, from 1: caches of this size and larger ones had it.
+    // The key's depth, from 1: caches of this size and larger ones held it.
     depth: Option<usize>,
-    // Caches up to this size evicted a key.
+    // Caches up to this size evict a key.
     evicts: usize,
 }
 
@@ -81,12 +82,12 @@ impl Stack {
         })
     }
 
-    // The depth of a used slot, from 1.
+    // Returns the depth of a used slot, from 1.
     fn depth(&self, slot: usize) -> usize {
         self.used.saturating_sub(self.slots.before(slot))
     }
 
-    // Puts a key at the top. A put makes room before the key's old record goes, which leaves a hole.
+    // Moves a key to the top. A put makes room before it replaces the key's old record, which leaves a hole.
     fn touch(&mut self, key: u64, is_put: bool) -> Result<Touched, AllocError> {
         let was = self.places.insert(key, self.next)?;
         let depth = was.map(|slot| self.depth(slot));
@@ -98,7 +99,7 @@ impl Stack {
         };
         let is_moved = !is_put && was.is_some_and(|slot| hole.is_none_or(|hole| hole < slot));
         if !is_moved {
-            // What lies above the first hole fills it, and one opens where the key was.
+            // The keys above the first hole move down into it, and a hole opens at the key's old slot.
             if let Some(hole) = hole {
                 self.holes.remove(&hole);
             }
@@ -126,21 +127,22 @@ impl Stack {
     }
 }
 
-/// What LRU counts at all sizes.
+/// The counts of LRU at all sizes.
 #[derive(Drop)]
 pub struct Curve {
-    // How many gets found their key at each depth, their bytes, and how many uses evicted a key up to each size.
+    // The gets that found their key at each depth, their bytes, and the uses that evicted a key up to each size.
     hits: Vec<u64>,
     hit_bytes: Vec<u128>,
     evictions: Vec<u64>,
     gets: u64,
     bytes: u128,
-    // What caches of the sizes that were asked for counted up to the end of each window.
+    // The counts of caches of the wanted sizes up to the end of each window.
     marks: Vec<Vec<Counts>>,
 }
 
 impl Curve {
-    /// The curve of a trace's windows, of which the first few records are not counted, with marks at sizes in ascending order.
+    /// Computes the curve over the windows of a trace in O(n log n), and marks the counts at sizes in ascending order.
+    /// The first `warmup` records are not counted.
     pub fn of(
         alloc: Global,
         trace: &[Trace],
@@ -148,7 +150,7 @@ impl Curve {
         sizes: &[usize],
     ) -> Result<Curve, AllocError> {
         let totals = trace.first().map_or(Totals::default(), |it| it.totals);
-        // All keys and a hole have a depth each, and there is none at 0.
+        // Depths from 1 for all keys and a hole.
         let depths = (totals.keys as usize).saturating_add(2);
         let mut curve = Curve {
             hits: vec![in alloc; 0u64; depths]?,
@@ -206,12 +208,12 @@ impl Curve {
         }
     }
 
-    /// The greatest depth, behind which all caches count the same.
+    /// Returns the greatest depth. All larger caches have the same counts.
     pub fn depths(&self) -> usize {
         self.hits.len().saturating_sub(1)
     }
 
-    /// What caches of these sizes, in ascending order, count. One of size 0 keeps a record.
+    /// Returns the counts of caches of these sizes, which ascend. A size of 0 counts as 1.
     pub fn counts(&self, alloc: Global, sizes: &[usize]) -> Result<Vec<Counts>, AllocError> {
         let mut all = Vec::with_capacity(alloc, sizes.len())?;
         let mut evictions = self
@@ -248,7 +250,7 @@ impl Curve {
         Ok(all)
     }
 
-    /// What the cache of a size that was asked for, by its place, counts in each window.
+    /// Returns the counts in each window of a wanted size, given by its place.
     pub fn windows(&self, alloc: Global, place: usize) -> Result<Vec<Counts>, AllocError> {
         let mut windows = Vec::with_capacity(alloc, self.marks.len())?;
         let mut before = Counts::default();
@@ -267,7 +269,7 @@ impl Curve {
         Ok(windows)
     }
 
-    /// Sizes that draw the curve: each up to 50, and from there on those that lie 2 per cent apart.
+    /// Returns the sizes that draw the curve: each up to 50, then 2 per cent apart.
     pub fn sizes(&self, alloc: Global) -> Result<Vec<usize>, AllocError> {
         let mut sizes = Vec::new(alloc);
         let mut size = 1usize;

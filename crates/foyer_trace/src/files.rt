@@ -6,14 +6,14 @@ use std::alloc::Global;
 use std::fs::{self, File, Files, OpenFile};
 use std::io::Write;
 
-/// A file that is open.
+/// An open file.
 #[derive(Drop)]
 pub struct Output<'a, F: Drop> {
     path: &'a str,
     file: F,
 }
 
-/// The files that are open.
+/// The open files of a report.
 #[derive(Drop)]
 pub struct Opened<'a, F: Drop> {
     pub csv: Option<Output<'a, F>>,
@@ -21,7 +21,7 @@ pub struct Opened<'a, F: Drop> {
     pub html: Option<Output<'a, F>>,
 }
 
-/// Opens the files that are asked for, none of which may be the trace.
+/// Opens the wanted files, none of which may be the trace.
 pub fn open_files<'a, R: AllocGlobal + Files>(
     rt: &R,
     alloc: Global,
@@ -53,7 +53,7 @@ pub fn open_files<'a, R: AllocGlobal + Files>(
     })
 }
 
-// Whether two paths lead to one file that is there.
+// Whether two paths lead to the same existing file.
 fn is_same_file<R: AllocGlobal + Files>(rt: &R, path: &str, other: &str) -> bool {
     match (fs::canonicalize(rt, path), fs::canonicalize(rt, other)) {
         (Ok(path), Ok(other)) => path == other,
@@ -78,7 +78,7 @@ fn open_file<'a, R: Files>(
 }
 
 impl<F: Write + OpenFile + Drop> Output<'_, F> {
-    /// Writes a text in the place of what the file had.
+    /// Replaces the file's content by a text.
     pub fn write(self, alloc: Global, text: &str) -> Result<(), Failure> {
         let Output { path, file } = self;
         match replace(file, text) {

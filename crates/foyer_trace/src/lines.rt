@@ -21,8 +21,8 @@ impl<B: BufRead + Drop> Lines<B> {
         }
     }
 
-    /// Goes on to the next line that is not empty, and returns how many lines on that is, or 0 at the end. A line with a byte
-    /// of 0 is no text, and ends the run.
+    /// Goes on to the next line that is not empty, and returns how many lines on that is, or 0 at the end. A line with
+    /// a byte of 0 is no text, and ends the run.
     pub fn advance(&mut self) -> Result<u64, Failure> {
         for skipped in 0..u64::MAX {
             self.line.clear();

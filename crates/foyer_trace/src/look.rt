@@ -2,7 +2,7 @@
 
 use std::alloc::AllocError;
 
-/// How a policy's line looks: each is told from the others without its colour too.
+/// The look of a policy's line, distinct without its colour too.
 #[derive(Clone, Copy)]
 pub struct Look {
     pub colour: &'static str,
@@ -84,8 +84,7 @@ const LOOKS: [Look; 12] = [
     },
 ];
 
-/// The look of the line of this number. From the thirteenth on the same colours and dashes have
-/// other markers.
+/// Returns the look of a line by its number. From the thirteenth on, colours and dashes come again with other markers.
 pub fn look_of(policy: usize) -> Look {
     let round = policy / LOOKS.len();
     Look {
@@ -94,7 +93,7 @@ pub fn look_of(policy: usize) -> Look {
     }
 }
 
-/// Puts the marker of a line in.
+/// Draws the marker of a line.
 pub fn push_marker(text: &mut String, x: f64, y: f64, look: &Look) -> Result<(), AllocError> {
     let colour = look.colour;
     let shape = match look.marker {

@@ -1,4 +1,5 @@
-//! `foyer-trace` replays the requests of a trace over caches of each policy and size, and prints and draws their miss ratios.
+//! `foyer-trace` replays the requests of a trace over caches of each policy and size, and prints and draws their miss
+//! ratios.
 #![tactic(auto)]
 
 use clap::ArgMatches;

@@ -8,21 +8,21 @@ use crate::sheet::HEADER;
 use csv::{ErrorKind, ReaderBuilder, StringRecord};
 use std::alloc::{AllocError, Global};
 
-// What a file to be merged has in each line.
+// The message for a line that is no row.
 const ROW: &str = "expected a row as --csv writes it";
 
-/// A row, and the parts of the keys that it is the sum of.
+/// A sum of rows, and the parts of the keys that they are of.
 #[derive(Drop)]
 struct Sum {
     row: Row,
     parts: Vec<u64>,
 }
 
-/// Adds the rows of CSV texts up, where policy, parameters and size are the same. Each part is taken once.
+/// Sums the rows of CSV files by policy, parameters and size, and takes each part once.
 #[derive(Drop)]
 pub struct Merger {
     sums: Vec<Sum>,
-    // What the rows are of; of the part it says nothing.
+    // The origin of the first row; all others have to agree, but for the part.
     origin: Origin,
     files: u64,
     is_in_bytes: bool,
@@ -88,7 +88,7 @@ impl Merger {
         }
     }
 
-    // Adds the record of a line, of which the first has the columns' names.
+    // Adds the record of a line. The first line has the names of the columns.
     fn add_record(&mut self, line: u64, record: &StringRecord) -> Result<(), Failure> {
         if line == 1 {
             return if is_header(record) {
@@ -121,7 +121,7 @@ impl Merger {
         self.add_row(row, origin.part)
     }
 
-    // Whether rows of this origin go with those before.
+    // Checks that a row is a part of the same run as those before it.
     fn check_origin(&self, origin: Origin) -> Result<(), Failure> {
         let parts = self.origin.parts;
         if origin.parts != parts {
@@ -155,7 +155,7 @@ impl Merger {
         Ok(())
     }
 
-    /// The report of all rows: policies in the order in which they came, each at each size.
+    /// Returns the report of all sums, with policies in the order of their first rows.
     pub fn report(self, title: String) -> Result<Report, Failure> {
         let alloc = self.alloc;
         self.check_parts()?;
@@ -203,7 +203,7 @@ impl Merger {
         })
     }
 
-    // Whether each row is the sum of all parts.
+    // Checks that each sum has all parts.
     fn check_parts(&self) -> Result<(), Failure> {
         let (alloc, of) = (self.alloc, self.origin.parts);
         for sum in &self.sums {
@@ -219,7 +219,7 @@ impl Merger {
         Ok(())
     }
 
-    // How many files there were, and how many gets they have together.
+    // Describes how many gets and files were added.
     fn facts(&self) -> Result<String, AllocError> {
         let gets = self
             .sums
@@ -232,7 +232,7 @@ impl Merger {
     }
 }
 
-// Whether a record has the columns' names.
+// Whether a record has the names of the columns.
 fn is_header(record: &StringRecord) -> bool {
     let mut columns = 0usize;
     for name in HEADER.split(',') {
@@ -244,7 +244,7 @@ fn is_header(record: &StringRecord) -> bool {
     record.len() == columns
 }
 
-// What the row of a record is of, if it says so.
+// Parses the origin of a record.
 fn origin_of(record: &StringRecord) -> Option<Origin> {
     let (part, parts) = record.get(14)?.split_once('/')?;
     let origin = Origin {
@@ -260,7 +260,7 @@ fn origin_of(record: &StringRecord) -> Option<Origin> {
     }
 }
 
-// The row of a record, if it is one.
+// Parses the row of a record.
 fn row_of(alloc: Global, record: &StringRecord) -> Option<Result<Row, AllocError>> {
     let number = |at: usize| decimal(record.get(at)?.as_bytes());
     let wide = |at: usize| {
@@ -306,7 +306,7 @@ fn is_same_run(row: &Row, other: &Row) -> bool {
         && row.size == other.size
 }
 
-// Adds another part's counts.
+// Adds the counts of another part.
 fn add_counts(row: &mut Row, more: &Row) {
     row.requests = row.requests.saturating_add(more.requests);
     row.hits = row.hits.saturating_add(more.hits);
@@ -318,7 +318,7 @@ fn add_counts(row: &mut Row, more: &Row) {
     row.seconds = row.seconds + more.seconds;
 }
 
-// Puts rows in the order of these policies, and those of a policy in the order of their sizes.
+// Sorts rows by the place of their policy, then by size.
 fn put_in_order(alloc: Global, rows: &mut [Row], policies: &Vec<String>) {
     let key = |row: &Row| {
         let policy = policies.iter().position(|it| {

@@ -7,10 +7,10 @@ use crate::trace::Totals;
 use std::alloc::{AllocError, Global};
 use std::num::saturating_f64_to_u64;
 
-// So many records of a sample a cache must have at least, that its ratio says something.
+// A sampled cache of fewer records has no meaningful ratio.
 const FEW: f64 = 100.0;
 
-// How many bytes a record has in the mean, or 1 where records weigh that.
+// Returns the mean weight of a record.
 fn mean_weight(totals: &Totals, weighs_sizes: bool) -> f64 {
     if !weighs_sizes {
         1.0
@@ -21,7 +21,7 @@ fn mean_weight(totals: &Totals, weighs_sizes: bool) -> f64 {
     }
 }
 
-/// The least size that is shown. Of a sample of this rate it has 100 records.
+/// Returns the least size whose ratio is shown: the one of which a sample of this rate has 100 records.
 pub fn shown_from(totals: &Totals, weighs_sizes: bool, rate: f64) -> u64 {
     if rate >= 1.0 {
         return 0;
@@ -35,7 +35,7 @@ pub fn shown_from(totals: &Totals, weighs_sizes: bool, rate: f64) -> u64 {
     }
 }
 
-/// Puts in what a reader of the table has to know of its sizes.
+/// Adds what a reader has to know of the table's sizes and rows.
 pub fn push_warnings(
     alloc: Global,
     notes: &mut Vec<String>,
@@ -73,7 +73,7 @@ pub fn push_warnings(
     Ok(())
 }
 
-// A size with its unit.
+// Formats a size with its unit.
 fn size_of(alloc: Global, size: u64, weighs_sizes: bool) -> Result<String, AllocError> {
     if weighs_sizes {
         bytes(alloc, size as u128)
@@ -82,7 +82,7 @@ fn size_of(alloc: Global, size: u64, weighs_sizes: bool) -> Result<String, Alloc
     }
 }
 
-/// How fast the runs were.
+/// Describes how fast the runs were.
 pub fn speed_of(
     alloc: Global,
     plan: &Plan<'_>,
@@ -100,7 +100,7 @@ pub fn speed_of(
     )
 }
 
-/// What is known of the trace, in a line.
+/// Describes the trace in a line.
 pub fn facts_of(alloc: Global, plan: &Plan<'_>, totals: &Totals) -> Result<String, AllocError> {
     let mut text = format!(in alloc; "{} requests", grouped(alloc, totals.records as u128)?)?;
     if totals.gets != totals.records {

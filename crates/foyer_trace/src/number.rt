@@ -82,8 +82,8 @@ fn parted(text: &[u8], at: Option<usize>) -> (&[u8], &[u8]) {
     }
 }
 
-/// The whole part of a number that is not negative, in digits, with a point or with an exponent, such as `12`, `12.5` or
-/// `1.25e3`, if it is below 2^64.
+/// The whole part of a number that is not negative, in digits, with a point or with an exponent, such as `12`, `12.5`
+/// or `1.25e3`, if it is below 2^64.
 pub fn whole_part(text: &[u8]) -> Option<u64> {
     let exponent_at = text.iter().position(|byte| matches!(byte, b'e' | b'E'));
     let (mantissa, exponent) = parted(text, exponent_at);

@@ -3,26 +3,26 @@
 use crate::record::Record;
 use foyer_replay::Operation;
 
-/// What rows are of.
+/// The trace and the part of its keys that rows are of.
 #[derive(Clone, Copy, Default, PartialEq, Eq)]
 pub struct Origin {
-    /// The number of the part of the keys that was replayed, from 1.
+    /// The number of the part, from 1.
     pub part: u64,
-    /// How many parts there are.
+    /// The number of parts.
     pub parts: u64,
-    /// How many records the trace has.
+    /// The number of records in the trace.
     pub read: u64,
     /// The checksum of the trace's records and of the caches' options.
     pub checksum: u64,
 }
 
-/// A checksum with one more number.
+/// Adds a number to a checksum.
 #[inline]
 pub fn joined(sum: u64, number: u64) -> u64 {
     (sum.rotate_left(5) ^ number).wrapping_mul(0x9E3779B97F4A7C15)
 }
 
-/// A checksum with one more record.
+/// Adds a record to a checksum.
 #[inline]
 pub fn checksum_with(sum: u64, record: &Record) -> u64 {
     let operation = match record.operation {

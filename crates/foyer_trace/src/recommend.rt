@@ -7,16 +7,17 @@ use std::alloc::{AllocError, Global};
 /// A policy at a size.
 #[derive(Clone, Copy)]
 pub struct Choice {
-    /// The policy's place.
+    /// The index of the policy.
     pub policy: usize,
     pub size: u64,
     pub ratio: f64,
-    /// Whether it is a point of the curve of LRU.
+    /// Whether it is a point of LRU's curve.
     pub is_curve: bool,
 }
 
 impl Choice {
-    // Whether it is better than another one, for a miss ratio, or by its own.
+    // Whether this choice is better than another: smaller with at most the target's miss ratio, or with a lower ratio
+    // if there is no target.
     fn is_better(self, other: Choice, target: Option<f64>) -> bool {
         let Some(target) = target else {
             return self.ratio < other.ratio;
@@ -29,13 +30,14 @@ impl Choice {
 }
 
 impl Report {
-    /// The least size at which one of the library's policies has at most a miss ratio, and the policy with the least there.
+    /// Returns the least size at which a policy of the library has at most the target's miss ratio, and the best policy
+    /// there.
     pub fn choice(&self, target: f64) -> Option<Choice> {
         self.best(Some(target))
             .filter(|choice| choice.ratio <= target)
     }
 
-    // The policy and size that are better than all others, for a miss ratio, or by their own.
+    // Returns the best of all choices.
     fn best(&self, target: Option<f64>) -> Option<Choice> {
         let mut best: Option<Choice> = None;
         for policy in 0..self.policies.len() {
@@ -56,7 +58,7 @@ impl Report {
         best
     }
 
-    /// The miss ratio of a choice's policy at twice its size, or next to it on a curve, if that was run.
+    /// Returns the miss ratio of a choice's policy at twice its size, or just below on a curve, if a run had that size.
     pub fn ratio_at_twice(&self, choice: Choice) -> Option<f64> {
         let twice = choice.size.saturating_mul(2);
         let mut found = None;
@@ -68,7 +70,7 @@ impl Report {
         found
     }
 
-    /// Puts what is recommended for a miss ratio above the notes, by what was run.
+    /// Adds a recommendation above the notes, from the rows alone.
     pub fn recommend(&mut self, alloc: Global, target: Option<f64>) -> Result<(), AllocError> {
         let Some(target) = target else {
             return Ok(());
@@ -80,7 +82,7 @@ impl Report {
         Ok(())
     }
 
-    /// What is recommended for a miss ratio, and what a size twice as large has.
+    /// Describes the recommendation for a miss ratio, and the ratio at twice the size.
     pub fn recommendation(
         &self,
         alloc: Global,
@@ -107,7 +109,7 @@ impl Report {
         Ok(text)
     }
 
-    // A policy at a size.
+    // Describes a choice.
     fn name_of(&self, alloc: Global, choice: Choice, size: u64) -> Result<String, AllocError> {
         let label = match self.policies.get(choice.policy) {
             Some(label) if !choice.is_curve => label.as_str(),
@@ -124,7 +126,7 @@ impl Report {
         }
     }
 
-    /// Whether a policy's place is that of the curve.
+    /// Whether the policy at an index is LRU's curve.
     pub fn is_curve(&self, policy: usize) -> bool {
         self.policies
             .get(policy)

@@ -1,5 +1,5 @@
-//! Other policies to compare with, as their papers have them: plain code, of which nothing but safety is proved, for records
-//! that weigh 1 and do not expire.
+//! Other policies to compare with, as their papers have them: plain code, of which nothing but safety is proved, for
+//! records that weigh 1 and do not expire.
 
 use crate::trace::{Part, Trace};
 use arc::Arc;
@@ -29,10 +29,10 @@ pub enum Reference {
 
 /// A cache of keys.
 pub trait Cache: Drop {
-    /// How many keys are resident.
+    /// Returns the number of resident keys.
     fn len(&self) -> usize;
 
-    /// Uses a key, which is inserted if it is missing, and returns whether it was resident.
+    /// Uses a key, inserts it if it is missing, and returns whether it was resident.
     fn touch(&mut self, key: u64) -> Result<bool, AllocError>;
 
     /// Forgets a key.
@@ -40,7 +40,7 @@ pub trait Cache: Drop {
 }
 
 impl Reference {
-    /// The policy of this name.
+    /// Returns the policy of this name.
     pub fn of_name(name: &str) -> Option<Reference> {
         match name {
             "arc" => Some(Reference::Arc),
@@ -52,8 +52,8 @@ impl Reference {
         }
     }
 
-    /// Replays the windows of a trace over a cache of so many records, of which one at least, and returns what it counts in each
-    /// behind the warmup.
+    /// Replays the windows of a trace over a cache of at least one record, and returns the counts of each, without
+    /// those of the first `warmup` records.
     pub fn replay(
         self,
         alloc: Global,

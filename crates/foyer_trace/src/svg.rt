@@ -14,7 +14,7 @@ const HEIGHT: f64 = 430.0;
 // The height of a line of the legend.
 const LEGEND: f64 = 24.0;
 
-/// A picture of all measures of a report, with its title above the first.
+/// Draws all measures of a report, with its title above the first.
 pub fn picture_of(alloc: Global, report: &Report, has_title: bool) -> Result<String, AllocError> {
     let mut text = String::new(alloc);
     let panel = height_of(report);
@@ -54,7 +54,7 @@ pub fn picture_of(alloc: Global, report: &Report, has_title: bool) -> Result<Str
     Ok(text)
 }
 
-// The width of a picture, which has room for the title and the longest label.
+// Returns the width of a picture, which has room for the title and the longest label.
 fn width_of(report: &Report) -> f64 {
     let longest = report.policies.iter().map(|it| it.len()).max().unwrap_or(0);
     WIDTH
@@ -62,12 +62,12 @@ fn width_of(report: &Report) -> f64 {
         .max(LEFT + 20.0 + 9.5 * float(report.title.len() as u128))
 }
 
-// The height of a panel, which has room for the legend.
+// Returns the height of a panel, which has room for the legend.
 fn height_of(report: &Report) -> f64 {
     HEIGHT.max(TOP + LEGEND * float(report.policies.len() as u128))
 }
 
-/// Puts a text in with what HTML and SVG want escaped.
+/// Adds a text, escaped for HTML and SVG.
 pub fn push_escaped(text: &mut String, plain: &str) -> Result<(), AllocError> {
     for letter in plain.chars() {
         match letter {
@@ -136,7 +136,7 @@ fn push_line(
     Ok(())
 }
 
-/// Puts the legend of a policy in.
+/// Draws the legend of a policy.
 pub fn push_legend(
     text: &mut String,
     policy: usize,

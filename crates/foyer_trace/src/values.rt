@@ -9,7 +9,7 @@ use crate::trace::Terms;
 use clap::ArgMatches;
 use std::alloc::Global;
 
-/// The trace's name, of which its format may be told. A compressed file has none.
+/// Returns the trace's name, whose ending tells its format. Refuses a compressed file.
 pub fn name_of<'a>(
     alloc: Global,
     matches: &ArgMatches<'a>,
@@ -35,7 +35,7 @@ pub fn name_of<'a>(
     }
 }
 
-/// The number from 1 on that an option has.
+/// Parses an option that is a number from 1.
 pub fn counted(
     alloc: Global,
     matches: &ArgMatches<'_>,
@@ -52,7 +52,7 @@ pub fn counted(
     }
 }
 
-/// How records become requests.
+/// Parses how records become requests.
 pub fn terms_of(alloc: Global, matches: &ArgMatches<'_>) -> Result<Terms, Failure> {
     let weighs_sizes = match matches.get_str("weigh") {
         None | Some("one") => false,
@@ -71,7 +71,7 @@ pub fn terms_of(alloc: Global, matches: &ArgMatches<'_>) -> Result<Terms, Failur
     Ok(Terms { weighs_sizes, ttl })
 }
 
-/// The miss ratio that is wanted.
+/// Parses the wanted miss ratio.
 pub fn target_of(alloc: Global, matches: &ArgMatches<'_>) -> Result<Option<f64>, Failure> {
     let Some(word) = matches.get_str("target") else {
         return Ok(None);
@@ -84,7 +84,7 @@ pub fn target_of(alloc: Global, matches: &ArgMatches<'_>) -> Result<Option<f64>,
     }
 }
 
-/// How long the caches are warmed up.
+/// Parses how long the caches are warmed up.
 pub fn warmup_of(alloc: Global, word: &str) -> Result<Warmup, Failure> {
     match (fraction(word), count(word)) {
         (Some(part), _) if part < 1.0 => Ok(Warmup::Fraction(part)),
@@ -95,7 +95,7 @@ pub fn warmup_of(alloc: Global, word: &str) -> Result<Warmup, Failure> {
     }
 }
 
-/// The sample that is replayed, what is said of it, and which of how many parts of the trace it is.
+/// Parses the sample to replay, and returns it with its description, and its number if it is one of several parts.
 pub fn sample_of(
     alloc: Global,
     matches: &ArgMatches<'_>,

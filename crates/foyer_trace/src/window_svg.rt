@@ -8,13 +8,13 @@ use crate::svg::push_legend;
 use crate::windows::ratio_of;
 use std::alloc::{AllocError, Global};
 
-// Where a window stands: in the middle of its part of the axis.
+// Returns the x coordinate of a window: the middle of its part of the axis.
 fn place_of(report: &Report, window: usize) -> f64 {
     let part = (float(window as u128) + 0.5) / float(report.window_count().max(1) as u128);
     LEFT + (RIGHT - LEFT) * part
 }
 
-/// Puts the panel of a size in, by its place.
+/// Draws the panel of a size, given by its place.
 pub fn push_window_panel(
     alloc: Global,
     text: &mut String,
@@ -45,7 +45,7 @@ pub fn push_window_panel(
     Ok(())
 }
 
-// The axis of windows, of which at most ten have their numbers.
+// Draws the axis of windows, and numbers about ten of them.
 fn push_numbers(alloc: Global, text: &mut String, report: &Report) -> Result<(), AllocError> {
     let count = report.window_count();
     let step = (count / 10).max(1);

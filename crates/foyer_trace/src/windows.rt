@@ -7,20 +7,20 @@ use foyer_replay::Counts;
 use std::alloc::{AllocError, Global};
 use std::mem;
 
-/// A trace that is cut into windows.
+/// Cuts a trace into windows.
 #[derive(Drop)]
 struct Cutter {
     windows: Vec<Trace>,
-    // The parts of the window that is filled.
+    // The parts of the current window.
     parts: Vec<Part>,
-    // How many records the windows up to it have, and the trace, and how many windows there are to be.
+    // The records of all windows so far and of the trace, and the wanted number of windows.
     records: u64,
     all: u64,
     count: usize,
     alloc: Global,
 }
 
-/// Cuts a trace into so many windows, whose records differ by one at most.
+/// Cuts a trace into windows whose numbers of records differ by at most one.
 pub fn windows_of(alloc: Global, trace: Trace, count: usize) -> Result<Vec<Trace>, AllocError> {
     let Trace { parts, totals } = trace;
     let mut cutter = Cutter {
@@ -51,7 +51,7 @@ pub fn windows_of(alloc: Global, trace: Trace, count: usize) -> Result<Vec<Trace
 }
 
 impl Cutter {
-    // Up to which record the window that is filled goes.
+    // Returns the number of the record at which the current window ends.
     fn end(&self) -> u64 {
         let number = self.windows.len().saturating_add(1);
         let end = (self.all as u128).saturating_mul(number as u128) / (self.count.max(1) as u128);
@@ -88,7 +88,7 @@ impl Cutter {
     }
 }
 
-/// The miss ratio of a window, if it has gets that are counted.
+/// Returns the miss ratio of a window, if it has counted gets.
 pub fn ratio_of(counts: &Counts) -> Option<f64> {
     let gets = counts.hits.saturating_add(counts.misses);
     if gets == 0 {
@@ -98,7 +98,7 @@ pub fn ratio_of(counts: &Counts) -> Option<f64> {
 }
 
 impl Report {
-    /// What a policy's run at a size counted in each window.
+    /// Returns the counts in each window of a policy's run at a size.
     pub fn windows_of(&self, policy: usize, column: usize) -> &[Counts] {
         let number = policy
             .saturating_mul(self.sizes.len())
@@ -106,12 +106,12 @@ impl Report {
         self.windows.get(number).map_or(&[], |it| it.as_slice())
     }
 
-    /// How many windows there are.
+    /// Returns the number of windows.
     pub fn window_count(&self) -> usize {
         self.windows.first().map_or(0, |it| it.len())
     }
 
-    /// What stands above a size's windows.
+    /// Returns the title of a size's windows.
     pub fn windows_title(&self, alloc: Global, size: u64) -> Result<String, AllocError> {
         let size = if self.is_in_bytes {
             self.size_text(alloc, size)?
@@ -123,7 +123,7 @@ impl Report {
     }
 }
 
-/// Puts a table for each size in: a row for each policy and a column for each window.
+/// Prints a table for each size, with a row for each policy and a column for each window.
 pub fn push_windows(alloc: Global, text: &mut String, report: &Report) -> Result<(), AllocError> {
     if report.window_count() == 0 {
         return Ok(());

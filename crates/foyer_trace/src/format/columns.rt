@@ -141,7 +141,8 @@ impl Columns {
         }
     }
 
-    // Whether a row is a header: a column of numbers has a word there, or that of keys or operations has one of its names.
+    // Whether a row is a header: a column of numbers has a word there, or that of keys or operations has one of its
+    // names.
     fn are_headed_by(&self, row: &ByteRecord) -> bool {
         let is_word = |place: Option<usize>| {
             place

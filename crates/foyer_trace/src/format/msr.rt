@@ -9,10 +9,10 @@ use foyer_replay::Operation;
 use std::alloc::Global;
 use std::io::BufRead;
 
-// How many bytes a block has.
+// The bytes of a block.
 const BLOCK: u64 = 4096;
 
-/// The blocks of a request that are still to come.
+/// The blocks of a request that are still to be returned.
 #[derive(Clone, Copy, Default)]
 struct Blocks {
     disk: u64,
@@ -42,7 +42,7 @@ impl<B: BufRead + Drop> MsrReader<B> {
         }
     }
 
-    // The blocks of the line.
+    // Parses the blocks of the line.
     fn request(&self) -> Option<Blocks> {
         let mut fields = self.lines.line().split(|byte| *byte == b',');
         let time = decimal(fields.next()?)?;

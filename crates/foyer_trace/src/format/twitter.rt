@@ -27,7 +27,7 @@ impl<B: BufRead + Drop> TwitterReader<B> {
         }
     }
 
-    // The record of the line.
+    // Parses the record of the line.
     fn record(&self) -> Option<Record> {
         let mut fields = self.lines.line().split(|byte| *byte == b',');
         let time = decimal(fields.next()?)?;

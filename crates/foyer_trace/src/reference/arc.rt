@@ -5,11 +5,11 @@ use crate::reference::Cache;
 use crate::reference::queue::Queue;
 use std::alloc::{AllocError, Global};
 
-/// Keys that were used once and more often, and of each the latest that were evicted.
+/// Resident keys that were used once or more often, and the last keys evicted from each of the two.
 #[derive(Drop)]
 pub struct Arc {
     capacity: usize,
-    // How many keys of the cache are to be ones that were used once.
+    // The wanted number of resident keys that were used once.
     target: f64,
     once: Queue,
     often: Queue,
@@ -29,7 +29,7 @@ impl Arc {
         }
     }
 
-    // Evicts a key, and remembers it. `is_often` says whether it makes room for one of those that were used often.
+    // Evicts a key and remembers it. `is_often` says whether the new key was evicted from those used often.
     fn replace(&mut self, is_often: bool) -> Result<(), AllocError> {
         let once = real(self.once.len());
         if self.once.len() > 0 && (once > self.target || is_often && once == self.target) {
@@ -42,7 +42,7 @@ impl Arc {
         Ok(())
     }
 
-    // A key that was remembered comes back among those that were used often.
+    // Inserts a remembered key among those used often.
     fn recall(&mut self, key: u64, is_often: bool) -> Result<(), AllocError> {
         let (once, often) = (
             real(self.once_evicted.len()),

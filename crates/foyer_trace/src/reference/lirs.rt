@@ -1,16 +1,16 @@
-//! LIRS: S. Jiang and X. Zhang, "LIRS: An Efficient Low Inter-reference Recency Set Replacement Policy to Improve Buffer Cache
-//! Performance" (2002).
+//! LIRS: S. Jiang and X. Zhang, "LIRS: An Efficient Low Inter-reference Recency Set Replacement Policy to Improve
+//! Buffer Cache Performance" (2002).
 
 use crate::reference::Cache;
 use crate::reference::queue::Queue;
 use std::alloc::{AllocError, Global};
 use std::collections::HashSet;
 
-/// Keys that are used again soon, which are all but a hundredth of the cache, and the others in a queue. The stack has keys in
-/// the order of their last use, also evicted ones, down to the last of those that are used again soon.
+/// A hundredth of the cache is a queue of keys that were not used again soon, the rest keys that were. The stack has
+/// resident and evicted keys by their last use, down to the oldest of those used again soon.
 #[derive(Drop)]
 pub struct Lirs {
-    // How many keys of either kind there are at most.
+    // The most keys of either kind.
     most_soon: usize,
     most_others: usize,
     soon: HashSet<u64>,
@@ -30,7 +30,7 @@ impl Lirs {
         }
     }
 
-    // Takes keys off the bottom of the stack down to one that is used again soon.
+    // Pops keys off the bottom of the stack up to one that was used again soon.
     fn prune(&mut self) {
         for _key in 0..self.stack.len() {
             match self.stack.oldest() {
@@ -40,7 +40,7 @@ impl Lirs {
         }
     }
 
-    // A key whose last use was in the stack is used again soon, in the place of the one that was used the longest ago.
+    // Makes a key one that was used again soon, in the place of the least recently used of these.
     fn promote(&mut self, key: u64) -> Result<(), AllocError> {
         self.others.remove(key);
         self.soon.insert(key)?;

@@ -1,16 +1,16 @@
-//! LRU-K: E. J. O'Neil, P. E. O'Neil and G. Weikum, "The LRU-K Page Replacement Algorithm For Database Disk Buffering" (1993),
-//! for K = 2 and with no correlated references.
+//! LRU-K: E. J. O'Neil, P. E. O'Neil and G. Weikum, "The LRU-K Page Replacement Algorithm For Database Disk Buffering"
+//! (1993), for K = 2 and with no correlated references.
 
 use crate::reference::Cache;
 use crate::reference::queue::Queue;
 use std::alloc::{AllocError, Global};
 use std::collections::{BTreeMap, HashMap};
 
-/// When a key was used before its last use, or 0, and when last.
+/// The times of the last use but one, or 0, and of the last use.
 type Uses = (u64, u64);
 
-/// Evicts the key whose last use but one is the longest ago. When keys were used last is remembered of as many evicted ones
-/// as the cache has.
+/// Evicts the key whose last use but one is the longest ago. The last use of evicted keys is remembered, of as many as
+/// the capacity.
 #[derive(Drop)]
 pub struct LruK {
     capacity: usize,

@@ -28,7 +28,7 @@ impl Queue {
         self.places.contains_key(&key)
     }
 
-    /// Pushes a key as the newest, also where it is there.
+    /// Pushes a key as the newest, and removes it from its old place.
     pub fn push(&mut self, key: u64) -> Result<(), AllocError> {
         self.remove(key);
         self.order.insert(self.next, key)?;
@@ -45,12 +45,12 @@ impl Queue {
         }
     }
 
-    /// The oldest key.
+    /// Returns the oldest key.
     pub fn oldest(&self) -> Option<u64> {
         self.order.first_key_value().map(|entry| *entry.1)
     }
 
-    /// Removes the oldest key.
+    /// Removes and returns the oldest key.
     pub fn pop(&mut self) -> Option<u64> {
         let (_place, key) = self.order.pop_first()?;
         self.places.remove(&key);

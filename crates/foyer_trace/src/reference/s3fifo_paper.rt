@@ -5,7 +5,7 @@ use crate::reference::queue::Queue;
 use std::alloc::{AllocError, Global};
 use std::collections::HashMap;
 
-/// New keys in a queue of a tenth of the cache, the others, and keys that were evicted from the first.
+/// A small queue of new keys, a tenth of the cache, a main queue, and the keys last evicted from the small one.
 #[derive(Drop)]
 pub struct S3FifoPaper {
     capacity: usize,
@@ -26,7 +26,7 @@ impl S3FifoPaper {
         }
     }
 
-    // Evicts a key of the small queue that was used at most once. The others go to the main queue.
+    // Evicts a key of the small queue that was used at most once, and promotes those before it to the main queue.
     fn evict_small(&mut self) -> Result<(), AllocError> {
         for _key in 0..self.small.len() {
             let Some(key) = self.small.pop() else { break };
@@ -45,7 +45,7 @@ impl S3FifoPaper {
         Ok(())
     }
 
-    // Evicts a key of the main queue that was not used since it was last looked at.
+    // Evicts the first key of the main queue with no uses left, and takes a use from those before it.
     fn evict_main(&mut self) -> Result<(), AllocError> {
         for _look in 0..self.main.len().saturating_mul(4) {
             let Some(key) = self.main.pop() else { break };

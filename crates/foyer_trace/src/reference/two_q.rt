@@ -4,8 +4,8 @@ use crate::reference::Cache;
 use crate::reference::queue::Queue;
 use std::alloc::{AllocError, Global};
 
-/// New keys in a queue of a quarter of the cache, keys that were evicted from it, half as many as the cache has, and those that
-/// were used again from there.
+/// A queue of new keys, a quarter of the cache, the keys last evicted from it, half as many as the capacity, and the
+/// keys that were used again after that.
 #[derive(Drop)]
 pub struct TwoQ {
     capacity: usize,
