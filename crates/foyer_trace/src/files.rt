@@ -29,15 +29,11 @@ pub fn open_files<'a, R: AllocGlobal + Files>(
     trace: &str,
 ) -> Result<Opened<'a, R::File>, Failure> {
     let paths = [outputs.csv, outputs.svg, outputs.html];
-    for (at, path) in paths.iter().enumerate() {
+    for path in paths.iter() {
         let Some(path) = path else {
             continue;
         };
-        let is_twice = paths
-            .iter()
-            .skip(at.saturating_add(1))
-            .any(|it| it.is_some_and(|it| it == *path));
-        if is_twice && !path.starts_with("/dev/") {
+        if is_named_twice(paths.as_slice(), path) && !path.starts_with("/dev/") {
             return Err(Failure::Usage(format!(in alloc; "two files of one name: {path}")?));
         }
         if trace != "-" && is_same_file(rt, path, trace) {
@@ -51,6 +47,19 @@ pub fn open_files<'a, R: AllocGlobal + Files>(
         svg: open_file(rt, alloc, outputs.svg)?,
         html: open_file(rt, alloc, outputs.html)?,
     })
+}
+
+// Whether a path is named more than once.
+fn is_named_twice(paths: &[Option<&str>], path: &str) -> bool {
+    let mut count = 0usize;
+    for it in paths {
+        if let Some(it) = it {
+            if *it == path {
+                count = count.saturating_add(1);
+            }
+        }
+    }
+    count > 1
 }
 
 // Whether two paths lead to the same existing file.
