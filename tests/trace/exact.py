@@ -102,6 +102,7 @@ def sums_past_32_bits(program):
     counts = {"requests": 5, "hits": 2, "misses": 3, "evictions": 4, "expired": 6, "bytes": 9, "miss_bytes": 8}
     for at in (1, 2):
         row = {"policy": "lru", "size": "9", "seconds": "1.5", "unit": "records"}
+        row |= {"part": f"{at}/2", "read": "9", "checksum": "7"}
         row.update({name: str(count * 2**40 + at) for name, count in counts.items()})
         program.put(f"s{at}.csv", ",".join(names) + "\n" + ",".join(row.get(name, "") for name in names) + "\n")
     merged = program.rows("--merge", "s1.csv", "s2.csv")[0]

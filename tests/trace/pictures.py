@@ -7,6 +7,7 @@ from common import TRACES, case, lines
 
 LETTER = 8.4  # the width of a digit in the widest of the usual fonts
 UNITS = {"": 1, "k": 10**3, "M": 10**6, "G": 10**9, "T": 10**12, "P": 10**15, "E": 10**18}
+BYTES = {"B": 1} | {f"{it}iB": 2 ** (10 * at) for at, it in enumerate("KMGTPE", 1)}
 
 
 def panels(program, *words):
@@ -57,9 +58,9 @@ def sizes_have_room(program):
             assert len(found) >= 2, (sizes, found)
             for (one, left), (other, right) in zip(found, found[1:]):
                 assert right - left >= LETTER * (len(one) + len(other)) / 2, (sizes, found)
-            numbers = [re.fullmatch(r"(\d+)( ?)([kMGTPE]?)(B?)", text) for text, _ in found]
-            assert all(bool(it[4]) == (name == "build.csv") for it in numbers), found
-            numbers = [int(it[1]) * UNITS[it[3]] for it in numbers]
+            numbers = [re.fullmatch(r"(\d+) ?(\w*)", text) for text, _ in found]
+            units = BYTES if words else UNITS
+            numbers = [int(it[1]) * units[it[2]] for it in numbers]
             assert numbers == sorted(set(numbers)), found
 
 

@@ -281,7 +281,7 @@ def merged_files_fit(program):
     for name, *words in (
         ["one.csv", "k.keys", "--policy", "lru,fifo", "--size", "9,40"],
         ["lru.csv", "k.keys", "--policy", "lru", "--size", "9,40"],
-        ["other.csv", "k.keys", "--policy", "fifo,lru", "--size", "40"],
+        ["fifo.csv", "k.keys", "--policy", "fifo", "--size", "40"],
         ["large.csv", "k.keys", "--policy", "fifo,lru", "--size", "40"],
         ["small.csv", "k.keys", "--policy", "fifo,lru", "--size", "9"],
         ["sized.csv", TRACES / "build.csv", "--policy", "fifo,lru", "--size", "9"],
@@ -289,18 +289,18 @@ def merged_files_fit(program):
     ):
         assert program.call(*words, "--csv", name)[0] == 0, name
     header = (program.folder / "one.csv").read_text().split("\n")[0]
-    uneven = "the files have not each policy at each size equally often"
-    program.fails(1, uneven, "--merge", "one.csv", "lru.csv")
-    program.fails(1, uneven, "--merge", "one.csv", "large.csv")
-    program.fails(1, uneven, "--merge", "lru.csv", "large.csv")
+    uneven, twice = "the files have not each policy at each size", "line 2: part 1/1 of"
+    program.fails(1, f"lru.csv: {twice} lru at 9 is there twice", "--merge", "one.csv", "lru.csv")
+    program.fails(1, f"large.csv: {twice} fifo at 40 is there twice", "--merge", "one.csv", "large.csv")
+    program.fails(1, uneven, "--merge", "lru.csv", "fifo.csv")
     before = "line 2: expected the unit and the columns of the rows before it"
     program.fails(1, f"sized.csv: {before}", "--merge", "small.csv", "sized.csv")
     program.fails(1, f"bytes.csv: {before}", "--merge", "sized.csv", "bytes.csv")
     program.fails(1, "no.csv: line 2: expected a row", "--merge", "one.csv", program.put("no.csv", header + "\n"))
-    assert "by cache size in bytes" in program.call("--merge", "bytes.csv", "bytes.csv")[1]
+    assert "by cache size in bytes" in program.call("--merge", "bytes.csv")[1]
     table = program.call("--merge", "large.csv", "small.csv")[1]
     assert table.split("\n\n")[1] == program.call("k.keys", "--policy", "fifo,lru", "--size", "9,40")[1].split("\n\n")[1]
-    assert program.call("--merge", "one.csv", "one.csv")[1].endswith("\n8,000 gets in 2 files\n")
+    assert table.endswith("\n4,000 gets in 2 files\n")
 
 
 @case

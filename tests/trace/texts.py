@@ -163,12 +163,13 @@ def units_of_numbers(program):
     tens = {"k": 3, "K": 3, "kB": 3, "KB": 3, "m": 6, "M": 6, "MB": 6, "g": 9, "G": 9, "GB": 9, "T": 12, "TB": 12}
     units = {unit: 10**power for unit, power in tens.items()}
     units |= {"": 1, "B": 1, "KiB": 2**10, "MiB": 2**20, "GiB": 2**30, "TiB": 2**40}
-    name = program.put("u.keys", "1\n")
+    name = program.put("u.csv", "key,size\n1,1\n")
     for unit, factor in units.items():
         most = (2**64 - 1) // factor
-        sizes = [int(it["size"]) for it in program.rows(name, "--policy", "fifo", "--size", f"0{unit},3{unit},{most}{unit}")]
+        words = [name, "--policy", "fifo", *(["--weigh", "size"] if "B" in unit else []), "--size"]
+        sizes = [int(it["size"]) for it in program.rows(*words, f"0{unit},3{unit},{most}{unit}")]
         assert sizes == [0, 3 * factor, most * factor], (unit, sizes)
-        program.fails(2, "a size must be a number", name, "--size", f"{most + 1}{unit}")
+        program.fails(2, "a size must be a number", *words, f"{most + 1}{unit}")
     program.fails(2, "a size must be a number", name, "--size", "1MIB")
 
 
@@ -321,7 +322,9 @@ def closed_pipe(program):
 @case
 def files_that_cannot_be_written(program):
     found = program.call(TRACES / "sqlite.keys", "--policy", "fifo", "--csv", "/nowhere/x.csv", "--quiet")
-    assert found[0] == 1 and "/nowhere/x.csv: No such file" in found[2] and "\nfifo " in found[1], found
+    assert found[0] == 1 and "/nowhere/x.csv: No such file" in found[2] and found[1] == "", found
+    found = program.call(TRACES / "sqlite.keys", "--policy", "fifo", "--csv", "/dev/full", "--quiet")
+    assert found[0] == 1 and "/dev/full: No space" in found[2] and "\nfifo " in found[1], found
     with open("/dev/full", "wb") as full:
         words = [program.path, TRACES / "sqlite.keys", "--policy", "fifo", "--quiet"]
         ended = subprocess.run(words, stdout=full, stderr=subprocess.PIPE, check=False)

@@ -1,2 +1,3 @@
 pub mod Counting
-mod Serving
+mod IdleLemmas
+mod Places

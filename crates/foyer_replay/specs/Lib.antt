@@ -1,2 +1,4 @@
+pub mod Cores
 pub mod Counting
+pub mod Idle
 pub mod Replay

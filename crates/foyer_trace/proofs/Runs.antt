@@ -1,14 +1,16 @@
 -- What one more part of a trace adds to a run.
-use Rattle.std.proofs.Common.{◌≡◌, ◌∙◌, ◌+◌, ◌-◌, ◌<◌, ℕ, List, [], ◌∷◌, ◌++◌, drop, length, ap, arith, refl, subst, sym}
-use Rattle.std.proofs.lemmas.List.{drop_more}
+use Rattle.std.proofs.Common.{◌≡◌, ◌∙◌, ◌+◌, ◌-◌, ◌^◌, ◌<◌, ℕ, List, [], ◌∷◌, ◌++◌, drop, length, min, ap, arith, refl, subst, sym, zero-add}
+use Rattle.std.proofs.lemmas.List.{drop_more, length-append}
+use Rattle.std.proofs.lemmas.List.Sums.{sum_by-append}
 use Rattle.std.specs.Prelude.{slice_index_or}
-use Rattle.foyer_replay.proofs.Counting.{counted_joined, counted_none}
-use Rattle.foyer_replay.specs.Replay.{serves_of}
+use Rattle.foyer_replay.proofs.Counting.{counted_joined, counted_none, length_listed}
+use Rattle.foyer_replay.specs.Cores.{serves_of}
 use Rattle.foyer_replay.specs.declared.request.Request.{Request}
 use Rattle.foyer_trace.specs.Runs.{Serves}
-use Rattle.foyer_trace.specs.Trace.{requests_of, requests_of_part}
+use Rattle.foyer_trace.specs.Trace.{records_in, request_at, requests_of, requests_of_part, requests_of_windows}
 use Rattle.foyer_trace.specs.declared.trace.Part.{Part}
 use Rattle.foyer_trace.specs.declared.trace.Terms.{Terms}
+use Rattle.foyer_trace.specs.declared.trace.Trace.{Trace}
 use Rattle.foyer_trace.specs.declared.runner.Core.{Core}
 use Rattle.foyer_trace.specs.declared.runner.Core.TheVariants.{Fifo, Lru, Lfu, S3Fifo, Sieve, Belady}
 
@@ -90,3 +92,33 @@ pub requests_more : (terms : Terms) (parts : List Part) (n : ℕ) (part : Part) 
     requests_of terms (drop n parts) ≡ requests_of_part terms part ++ requests_of terms (drop (n + 1) parts)
 requests_more terms parts n part less read =
     ap (requests_of terms) (drop_more parts n part less ∙ ap (λ (p : Part). p ∷ drop (n + 1) parts) (sym read))
+
+-- the records of parts become as many requests
+records_are : (terms : Terms) (parts : List Part) → length (requests_of terms parts) ≡ records_in parts
+records_are terms [] = refl
+records_are terms (part ∷ parts) =
+    let first = length_listed (request_at part terms) 0 (length part.keys.items) in
+    let rest = records_are terms parts in
+    let both = length-append (requests_of_part terms part) (requests_of terms parts) in
+    let many = λ (p : Part). length p.keys.items in
+    let sum : records_in (part ∷ parts) ≡ length part.keys.items + records_in parts = sum_by-append many (part ∷ []) parts
+    ∙ ap (λ n. n + records_in parts) (zero-add (length part.keys.items)) in
+    both
+    ∙ (ap (λ n. n + length (requests_of terms parts)) first
+    ∙ (ap (λ n. length part.keys.items + n) rest ∙ sym sum))
+
+-- of a number below 2^64 as many are left, if at most so many are counted
+pub left_is : (terms : Terms) (parts : List Part) (left many : ℕ) → left < 2 ^ 64 →
+    many ≡ min (records_in parts) (2 ^ 64 - 1) → left - many ≡ left - length (requests_of terms parts)
+left_is terms parts left many less is =
+    let all = records_are terms parts in
+    omega (arith, less, is, all)
+
+-- the windows from a place on begin with the one there
+pub windows_more : (terms : Terms) (trace : List Trace) (n : ℕ) (window : Trace) → n < length trace →
+    window ≡ slice_index_or trace n window →
+    requests_of_windows terms (drop n trace)
+    ≡ requests_of terms window.parts.items ++ requests_of_windows terms (drop (n + 1) trace)
+windows_more terms trace n window less read =
+    ap (requests_of_windows terms)
+    (drop_more trace n window less ∙ ap (λ (w : Trace). w ∷ drop (n + 1) trace) (sym read))

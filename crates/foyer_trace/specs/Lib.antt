@@ -1,2 +1,3 @@
-pub mod Trace
+pub mod Rows
 pub mod Runs
+pub mod Trace

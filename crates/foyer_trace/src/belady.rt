@@ -1,4 +1,5 @@
-//! The least possible misses, by L. A. Belady, "A study of replacement algorithms for a virtual-storage computer" (1966).
+//! The least possible misses, by L. A. Belady, "A study of replacement algorithms for a virtual-storage computer"
+//! (1966).
 
 use crate::trace::{Part, Trace};
 use foyer_replay::{Counts, Operation};
@@ -18,32 +19,47 @@ impl Future {
     /// The most records that a trace may have.
     pub const MOST: u64 = NEVER as u64;
 
-    /// The future of a trace. A key that is put or removed is of no use until then.
-    pub fn of(alloc: Global, trace: &Trace) -> Result<Future, AllocError> {
-        let mut parts = Vec::new(alloc);
+    /// The future of each window of a trace. A key that is put or removed is of no use until then.
+    pub fn of(alloc: Global, windows: &[Trace]) -> Result<Vec<Future>, AllocError> {
+        let mut futures = Vec::new(alloc);
         let mut next: HashMap<u64, u32> = HashMap::new(alloc);
-        let mut number = trace.totals.records;
-        for part in trace.parts.iter().rev() {
-            let mut future = Vec::with_capacity(alloc, part.len())?;
-            for (place, key) in part.keys().iter().enumerate().rev() {
-                number = number.saturating_sub(1);
-                let uses = match part.operation(place) {
-                    Operation::Get => u32::try_from(number).unwrap_or(NEVER),
-                    Operation::Put | Operation::Remove => NEVER,
-                };
-                future.push(next.insert(*key, uses)?.unwrap_or(NEVER))?;
+        let mut number = windows.first().map_or(0, |it| it.totals.records);
+        for window in windows.iter().rev() {
+            let mut parts = Vec::new(alloc);
+            for part in window.parts.iter().rev() {
+                parts.push(future_of(alloc, part, &mut next, &mut number)?)?;
             }
-            future.as_mut_slice().reverse();
-            parts.push(future)?;
+            parts.as_mut_slice().reverse();
+            futures.push(Future { parts })?;
         }
-        parts.as_mut_slice().reverse();
-        Ok(Future { parts })
+        futures.as_mut_slice().reverse();
+        Ok(futures)
     }
 
     /// The future of the records of a part.
     pub fn part(&self, place: usize) -> &[u32] {
         self.parts.get(place).map_or(&[], |part| part.as_slice())
     }
+}
+
+// The future of the records of a part, whose keys are next got so later. The number is that of the record behind it.
+fn future_of(
+    alloc: Global,
+    part: &Part,
+    next: &mut HashMap<u64, u32>,
+    number: &mut u64,
+) -> Result<Vec<u32>, AllocError> {
+    let mut future = Vec::with_capacity(alloc, part.len())?;
+    for (place, key) in part.keys().iter().enumerate().rev() {
+        *number = number.saturating_sub(1);
+        let uses = match part.operation(place) {
+            Operation::Get => u32::try_from(*number).unwrap_or(NEVER),
+            Operation::Put | Operation::Remove => NEVER,
+        };
+        future.push(next.insert(*key, uses)?.unwrap_or(NEVER))?;
+    }
+    future.as_mut_slice().reverse();
+    Ok(future)
 }
 
 /// A cache that knows the future. It keeps those keys that are got the soonest, and a new key only if it is among them,
@@ -95,7 +111,8 @@ impl Belady {
         Ok(counts)
     }
 
-    // Serves a record whose key is next got then, and returns whether it was resident and whether another one was evicted.
+    // Serves a record whose key is next got then, and returns whether it was resident and whether another one was
+    // evicted.
     fn meet(&mut self, operation: Operation, next: u32) -> Result<(bool, bool), AllocError> {
         let is_hit = self.resident.remove(&self.number);
         self.number = self.number.saturating_add(1);

@@ -36,6 +36,17 @@ impl Failure {
         }
     }
 
+    /// A trace that was to be text, and is none.
+    #[cold]
+    pub fn no_text(alloc: Global) -> Failure {
+        let why =
+            "the trace has bytes of 0, so it is no text: say --format oracle if it has libCacheSim's records, and unpack it if it is compressed";
+        match String::from_str(alloc, why) {
+            Ok(why) => Failure::Other(why),
+            Err(_) => Failure::Memory,
+        }
+    }
+
     /// A failed write to standard output.
     pub fn of_output(alloc: Global, error: &io::Error) -> Failure {
         match error.kind() {

@@ -3,6 +3,7 @@
 use crate::report::Report;
 use crate::svg::{picture_of, push_escaped};
 use crate::table::push_html;
+use crate::windows::push_windows;
 use std::alloc::{AllocError, Global};
 
 const HEAD: &str = "<!DOCTYPE html>
@@ -33,9 +34,16 @@ pub fn page_of(alloc: Global, report: &Report, command: &[String]) -> Result<Str
     text.push_str(STYLE)?;
     push_escaped(&mut text, report.title.as_str())?;
     text.push_str("</h1>\n")?;
-    text.push_str(picture_of(alloc, report)?.as_str())?;
+    text.push_str(picture_of(alloc, report, false)?.as_str())?;
     for measure in report.measures() {
         push_html(alloc, &mut text, report, *measure)?;
+    }
+    let mut windows = String::new(alloc);
+    push_windows(alloc, &mut windows, report)?;
+    if !windows.is_empty() {
+        text.push_str("<pre>")?;
+        push_escaped(&mut text, windows.as_str().trim_start())?;
+        text.push_str("</pre>\n")?;
     }
     for note in &report.notes {
         text.push_str("<p>")?;

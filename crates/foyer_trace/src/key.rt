@@ -27,9 +27,25 @@ pub fn key_of_text(text: &[u8]) -> u64 {
     }
 }
 
+/// The number of a host's disk.
+pub fn key_of_disk(host: &[u8], disk: &[u8]) -> u64 {
+    mix(fnv_on(fnv_on(fnv(host), b","), disk))
+}
+
+/// The key of a disk's block.
+#[inline]
+pub fn key_of_block(disk: u64, block: u64) -> u64 {
+    mix(disk ^ mix(block))
+}
+
 // FNV-1a of 64 bits.
 fn fnv(text: &[u8]) -> u64 {
-    let mut hash = 0xCBF29CE484222325u64;
+    fnv_on(0xCBF29CE484222325, text)
+}
+
+// FNV-1a of what goes on after a text of this hash.
+fn fnv_on(start: u64, text: &[u8]) -> u64 {
+    let mut hash = start;
     for byte in text {
         hash = (hash ^ *byte as u64).wrapping_mul(0x100000001B3);
     }

@@ -21,7 +21,8 @@ impl<B: BufRead + Drop> Lines<B> {
         }
     }
 
-    /// Goes on to the next line that is not empty, and returns how many lines on that is, or 0 at the end.
+    /// Goes on to the next line that is not empty, and returns how many lines on that is, or 0 at the end. A line with
+    /// a byte of 0 is no text, and ends the run.
     pub fn advance(&mut self) -> Result<u64, Failure> {
         for skipped in 0..u64::MAX {
             self.line.clear();
@@ -39,6 +40,9 @@ impl<B: BufRead + Drop> Lines<B> {
                     break;
                 }
                 self.line.pop();
+            }
+            if self.line.contains(&0) {
+                return Err(Failure::no_text(self.alloc));
             }
             if !self.line.is_empty() {
                 return Ok(skipped.saturating_add(1));

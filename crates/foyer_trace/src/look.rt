@@ -2,7 +2,7 @@
 
 use std::alloc::AllocError;
 
-/// How a policy's line looks: each is told from the others without its colour too.
+/// The look of a policy's line, distinct without its colour too.
 #[derive(Clone, Copy)]
 pub struct Look {
     pub colour: &'static str,
@@ -20,8 +20,8 @@ enum Marker {
     Plus,
 }
 
-// The colours are those of Okabe and Ito, which the colour-blind tell apart.
-const LOOKS: [Look; 6] = [
+// The first colours are those of Okabe and Ito, which the colour-blind tell apart; the others are as dark.
+const LOOKS: [Look; 12] = [
     Look {
         colour: "#0072B2",
         dashes: "none",
@@ -52,9 +52,39 @@ const LOOKS: [Look; 6] = [
         dashes: "1 4",
         marker: Marker::Plus,
     },
+    Look {
+        colour: "#5B4FC4",
+        dashes: "12 3",
+        marker: Marker::Square,
+    },
+    Look {
+        colour: "#B3123A",
+        dashes: "4 2",
+        marker: Marker::Triangle,
+    },
+    Look {
+        colour: "#3E7D12",
+        dashes: "7 2 2 2",
+        marker: Marker::Diamond,
+    },
+    Look {
+        colour: "#6F4A2E",
+        dashes: "3 5",
+        marker: Marker::Cross,
+    },
+    Look {
+        colour: "#0E7C86",
+        dashes: "14 4 4 4",
+        marker: Marker::Plus,
+    },
+    Look {
+        colour: "#6B7280",
+        dashes: "6 6",
+        marker: Marker::Square,
+    },
 ];
 
-/// The look of the line of this number. From the seventh on the same colours and dashes have other markers.
+/// Returns the look of a line by its number. From the thirteenth on, colours and dashes come again with other markers.
 pub fn look_of(policy: usize) -> Look {
     let round = policy / LOOKS.len();
     Look {
@@ -63,7 +93,7 @@ pub fn look_of(policy: usize) -> Look {
     }
 }
 
-/// Puts the marker of a line in.
+/// Draws the marker of a line.
 pub fn push_marker(text: &mut String, x: f64, y: f64, look: &Look) -> Result<(), AllocError> {
     let colour = look.colour;
     let shape = match look.marker {

@@ -1,18 +1,23 @@
-//! `foyer-trace` replays the requests of a trace over caches of each policy and size, and prints and draws their miss ratios.
+//! `foyer-trace` replays the requests of a trace over caches of each policy and size, and prints and draws their miss
+//! ratios.
 #![tactic(auto)]
 
 use clap::ArgMatches;
 use std::alloc::Global;
 use std::env::{self, Env};
-use std::fs::{self, Files};
-use std::io::{self, BufRead, BufReader, BufWriter, ErrorKind, IsTerminal};
+use std::fs::{self, Files, OpenFile};
+use std::io::{self, BufRead, BufReader, BufWriter, ErrorKind, IsTerminal, Write};
 use std::process::ExitCode;
 use std::rt::Clock;
 use std::thread::{self, Threads};
 use std::time::Instant;
 
+mod additions;
+mod axis;
 mod belady;
+mod curve;
 mod failure;
+mod files;
 mod footprint;
 mod format;
 mod help;
@@ -20,13 +25,18 @@ mod html;
 mod key;
 mod lines;
 mod look;
+mod merge;
 mod nearest;
+mod notes;
 mod number;
 mod options;
+mod origin;
 mod plan;
 mod policy;
 mod progress;
+mod recommend;
 mod record;
+mod reference;
 mod report;
 mod run;
 mod runner;
@@ -37,16 +47,22 @@ mod stream;
 mod svg;
 mod table;
 mod trace;
+mod values;
+mod window_svg;
+mod windows;
 mod zipf;
 
 use failure::Failure;
+use files::{Opened, open_files};
 use help::{HELP, VERSION};
+use merge::Merger;
 use options::{Outputs, Replay, Task, command, outputs_of, task_of};
 use report::Report;
 use session::{Ground, replay_trace};
-use sheet::{Merger, sheet_of};
+use sheet::sheet_of;
 use svg::picture_of;
 use table::text_of;
+use values::target_of;
 use zipf::{write_zipf, zipf_of};
 
 fn main(rt: HostRuntime) -> ExitCode {
@@ -136,18 +152,26 @@ fn answer<R: AllocGlobal + Clock + Eprint + Files + Input + Print + Threads + Sy
             write_zipf(alloc, zipf, &mut out)
         }
         Task::Merge => {
-            let report = merge(rt, alloc, matches, outputs.title.unwrap_or("merged parts"))?;
-            write_report(rt, alloc, &report, words, outputs)
+            let mut report = merge_files(
+                rt,
+                alloc,
+                matches,
+                outputs.title.unwrap_or("merged parts"),
+            )?;
+            report.recommend(alloc, target_of(alloc, matches)?)?;
+            let files = open_files(rt, alloc, outputs, "-")?;
+            write_report(rt, alloc, &report, words, files)
         }
         Task::Replay(replay) => {
+            let files = open_files(rt, alloc, outputs, replay.path)?;
             let report = open_and_replay(rt, alloc, &replay, outputs, is_terminal)?;
-            write_report(rt, alloc, &report, words, outputs)
+            write_report(rt, alloc, &report, words, files)
         }
     }
 }
 
 // Adds up the files that the words name.
-fn merge<R: AllocGlobal + Files>(
+fn merge_files<R: AllocGlobal + Files>(
     rt: &R,
     alloc: Global,
     matches: &ArgMatches<'_>,
@@ -205,42 +229,35 @@ fn open_and_replay<R: AllocGlobal + Clock + Eprint + Files + Input + Threads + S
     }
 }
 
-// Writes the files that were asked for, and prints the table, also where a file can't be written.
+// Writes the files that were opened, and prints the table, also where a file can't be written.
 fn write_report<R: AllocGlobal + Files + Print>(
     rt: &R,
     alloc: Global,
     report: &Report,
     words: &[String],
-    outputs: Outputs<'_>,
+    files: Opened<'_, R::File>,
 ) -> Result<(), Failure> {
-    let written = write_files(rt, alloc, report, words, outputs);
+    let written = write_files(alloc, report, words, files);
     let said = say(rt, alloc, text_of(alloc, report)?.as_str());
     written?;
     said
 }
 
-fn write_files<R: AllocGlobal + Files>(
-    rt: &R,
+fn write_files<F: Write + OpenFile + Drop>(
     alloc: Global,
     report: &Report,
     words: &[String],
-    outputs: Outputs<'_>,
+    files: Opened<'_, F>,
 ) -> Result<(), Failure> {
-    if let Some(path) = outputs.csv {
-        write_file(rt, alloc, path, sheet_of(alloc, report)?)?;
+    let Opened { csv, svg, html } = files;
+    if let Some(file) = csv {
+        file.write(alloc, sheet_of(alloc, report)?.as_str())?;
     }
-    if let Some(path) = outputs.svg {
-        write_file(rt, alloc, path, picture_of(alloc, report)?)?;
+    if let Some(file) = svg {
+        file.write(alloc, picture_of(alloc, report, true)?.as_str())?;
     }
-    if let Some(path) = outputs.html {
-        write_file(rt, alloc, path, html::page_of(alloc, report, words)?)?;
+    if let Some(file) = html {
+        file.write(alloc, html::page_of(alloc, report, words)?.as_str())?;
     }
     Ok(())
-}
-
-fn write_file<R: Files>(rt: &R, alloc: Global, path: &str, text: String) -> Result<(), Failure> {
-    match fs::write(rt, path, text) {
-        Ok(()) => Ok(()),
-        Err(error) => Err(Failure::of_io(alloc, path, &error)),
-    }
 }

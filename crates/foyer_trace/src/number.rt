@@ -4,8 +4,8 @@ use foyer_policy::Ratio;
 use std::alloc::{AllocError, Global};
 use std::num::saturating_f64_to_u64;
 
-// What each unit multiplies a count by; the empty one is last.
-const UNITS: [(&str, u64); 18] = [
+// What each unit of bytes multiplies a number by; the shortest is last.
+const BYTES: [(&str, u64); 10] = [
     ("KiB", 1 << 10),
     ("MiB", 1 << 20),
     ("GiB", 1 << 30),
@@ -15,6 +15,11 @@ const UNITS: [(&str, u64); 18] = [
     ("MB", 1_000_000),
     ("GB", 1_000_000_000),
     ("TB", 1_000_000_000_000),
+    ("B", 1),
+];
+
+// What each unit multiplies a count by; the empty one is last.
+const UNITS: [(&str, u64); 8] = [
     ("k", 1_000),
     ("K", 1_000),
     ("m", 1_000_000),
@@ -22,7 +27,6 @@ const UNITS: [(&str, u64); 18] = [
     ("g", 1_000_000_000),
     ("G", 1_000_000_000),
     ("T", 1_000_000_000_000),
-    ("B", 1),
     ("", 1),
 ];
 
@@ -43,11 +47,94 @@ pub fn decimal(digits: &[u8]) -> Option<u64> {
     Some(number)
 }
 
-/// A count with an optional unit, such as `10k` or `64MiB`.
+// How many digits are read on before the point, and the number that they add to.
+#[derive(Clone, Copy)]
+struct Whole {
+    number: u64,
+    left: usize,
+}
+
+impl Whole {
+    // Reads digits on. Those behind the point are looked at, and add nothing.
+    fn read(self, digits: &[u8]) -> Option<Whole> {
+        let mut whole = self;
+        for byte in digits {
+            if !byte.is_ascii_digit() {
+                return None;
+            }
+            if whole.left > 0 {
+                whole.number = whole
+                    .number
+                    .checked_mul(10)?
+                    .checked_add((*byte).wrapping_sub(b'0') as u64)?;
+                whole.left = whole.left.saturating_sub(1);
+            }
+        }
+        Some(whole)
+    }
+}
+
+// The parts of a text before and behind a byte, or the whole text and nothing.
+fn parted(text: &[u8], at: Option<usize>) -> (&[u8], &[u8]) {
+    match at {
+        Some(at) if at < text.len() => (&text[..at], &text[at + 1..]),
+        _ => (text, &text[text.len()..]),
+    }
+}
+
+/// The whole part of a number that is not negative, in digits, with a point or with an exponent, such as `12`, `12.5`
+/// or `1.25e3`, if it is below 2^64.
+pub fn whole_part(text: &[u8]) -> Option<u64> {
+    let exponent_at = text.iter().position(|byte| matches!(byte, b'e' | b'E'));
+    let (mantissa, exponent) = parted(text, exponent_at);
+    let point_at = mantissa.iter().position(|byte| *byte == b'.');
+    let (whole, places) = parted(mantissa, point_at);
+    if whole.is_empty() && places.is_empty() {
+        return None;
+    }
+    let digits = match exponent.split_first() {
+        None if exponent_at.is_some() => return None,
+        None => whole.len(),
+        Some((b'-', power)) => whole.len().saturating_sub(exponent_of(power)?),
+        Some((b'+', power)) => whole.len().saturating_add(exponent_of(power)?),
+        Some(_) => whole.len().saturating_add(exponent_of(exponent)?),
+    };
+    let read = Whole {
+        number: 0,
+        left: digits,
+    };
+    let mut read = read.read(whole)?.read(places)?;
+    for _zero in 0..read.left {
+        read.number = read.number.checked_mul(10)?;
+    }
+    Some(read.number)
+}
+
+// An exponent's digits; no number of any use has more than three.
+fn exponent_of(digits: &[u8]) -> Option<usize> {
+    let exponent = decimal(digits)?;
+    if exponent < 1000 {
+        Some(exponent as usize)
+    } else {
+        None
+    }
+}
+
+/// A count with an optional unit, such as `10k`.
 pub fn count(word: &str) -> Option<u64> {
-    for (unit, factor) in UNITS {
+    with_unit(word, UNITS.as_slice())
+}
+
+/// A number of bytes with its unit, such as `64MiB`.
+pub fn count_of_bytes(word: &str) -> Option<u64> {
+    with_unit(word, BYTES.as_slice())
+}
+
+// The number of a word that ends in one of these units, of which the first fits.
+fn with_unit(word: &str, units: &[(&str, u64)]) -> Option<u64> {
+    for (unit, factor) in units {
         if let Some(digits) = word.strip_suffix(unit) {
-            return decimal(digits.as_bytes())?.checked_mul(factor);
+            return decimal(digits.as_bytes())?.checked_mul(*factor);
         }
     }
     None

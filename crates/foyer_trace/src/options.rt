@@ -4,12 +4,14 @@ use crate::failure::Failure;
 use crate::format::Format;
 use crate::format::columns::{Wanted, wanted_columns};
 use crate::key::Sample;
-use crate::number::{count, decimal, fraction};
-use crate::plan::{Size, Warmup, has_belady, sizes_of};
+use crate::origin::joined;
+use crate::plan::{Size, Warmup, sizes_of};
 use crate::policy::{Policy, policies_of};
 use crate::trace::Terms;
+use crate::values::{counted, name_of, sample_of, target_of, terms_of, warmup_of};
 use clap::{Arg, ArgAction, ArgMatches, Command};
 use std::alloc::Global;
+use std::num::saturating_f64_to_u64;
 
 /// The sizes that are taken where none are given.
 const SIZES: &str = "0.001,0.003,0.01,0.03,0.1,0.3";
@@ -33,6 +35,8 @@ pub enum Task<'a> {
 #[derive(Drop)]
 pub struct Replay<'a> {
     pub path: &'a str,
+    /// The trace's name, by which it is called.
+    pub name: &'a str,
     pub format: Format,
     pub columns: Option<Wanted<'a>>,
     pub skips_bad: bool,
@@ -45,8 +49,13 @@ pub struct Replay<'a> {
     pub sample: Sample,
     /// What is said of the sample.
     pub sample_name: String,
-    pub is_part: bool,
+    /// The number of the part of the keys that is replayed, and how many there are.
+    pub part: Option<(u64, u64)>,
     pub is_stream: bool,
+    /// How many parts of the trace are counted, one after another.
+    pub windows: usize,
+    /// The miss ratio for which a size is recommended.
+    pub target: Option<f64>,
 }
 
 /// The files that a report is written to.
@@ -71,9 +80,9 @@ fn flag<'a>(alloc: Global, name: &'a str) -> Arg<'a> {
 
 /// The command line that the program takes.
 pub fn command<'a>(alloc: Global) -> Result<Command<'a>, clap::Error> {
-    const VALUED: [&str; 15] = [
+    const VALUED: [&str; 18] = [
         "format", "policy", "size", "shards", "weigh", "ttl", "warmup", "jobs", "csv", "svg",
-        "html", "title", "sample", "part", "make",
+        "html", "title", "sample", "part", "make", "windows", "target", "name",
     ];
     let mut command = Command::new(alloc, "foyer-trace")
         .no_binary_name(true)
@@ -138,10 +147,10 @@ fn replay_of<'a>(
     matches: &ArgMatches<'a>,
     path: &'a str,
 ) -> Result<Replay<'a>, Failure> {
-    check_path(alloc, path)?;
+    let name = name_of(alloc, matches, path)?;
     let format = match matches.get_str("format") {
         Some(name) => Format::of_name(alloc, name)?,
-        None => Format::of_path(alloc, path)?,
+        None => Format::of_path(alloc, name)?,
     };
     let columns = match matches.get_str("columns") {
         Some(_) if format != Format::Csv => {
@@ -150,9 +159,10 @@ fn replay_of<'a>(
         Some(list) => Some(wanted_columns(alloc, list)?),
         None => None,
     };
-    let (sample, sample_name, is_part) = sample_of(alloc, matches)?;
+    let (sample, sample_name, part) = sample_of(alloc, matches)?;
     let replay = Replay {
         path,
+        name,
         format,
         columns,
         skips_bad: matches.get_flag("skip-bad"),
@@ -164,51 +174,54 @@ fn replay_of<'a>(
         jobs: counted(alloc, matches, "jobs")?,
         sample,
         sample_name,
-        is_part,
+        part,
         is_stream: matches.get_flag("stream"),
+        windows: counted(alloc, matches, "windows")?.unwrap_or(1),
+        target: target_of(alloc, matches)?,
     };
     replay.check(alloc)?;
     Ok(replay)
 }
 
-// Whether a file can be read as it is, which a compressed one can't.
-fn check_path(alloc: Global, path: &str) -> Result<(), Failure> {
-    const READERS: [(&str, &str); 4] = [
-        (".zst", "zstdcat"),
-        (".gz", "zcat"),
-        (".xz", "xzcat"),
-        (".bz2", "bzcat"),
-    ];
-    for (ending, reader) in READERS {
-        if path.ends_with(ending) {
-            return Err(Failure::Usage(format!(in alloc;
-                "{path} is compressed: say {reader} {path} | foyer-trace - --format .."
-            )?));
-        }
-    }
-    Ok(())
-}
-
 impl Replay<'_> {
     // Whether the options go together.
     fn check(&self, alloc: Global) -> Result<(), Failure> {
-        let has_belady = has_belady(self.policies.as_slice());
-        let why = if has_belady && self.terms.weighs_sizes {
-            "belady is the least only where each record weighs 1: leave --weigh size out"
-        } else if has_belady && self.terms.ttl.is_some() {
-            "belady knows no lives: leave --ttl out"
-        } else if has_belady && self.is_stream {
-            "belady knows the future, and a stream has none: leave --stream out"
-        } else if self.has_relative_sizes() && self.is_stream {
+        if let Some(policy) = self.policies.iter().find(|it| !it.is_cores()) {
+            self.check_plain(alloc, policy)?;
+        }
+        let why = if self.has_relative_sizes() && self.is_stream {
             "--stream does not know the footprint: say each --size as a number of records or bytes"
         } else if self.is_stream && matches!(self.warmup, Warmup::Fraction(_)) {
             "--stream does not know the length: say --warmup as a number of records"
         } else if self.terms.weighs_sizes && !self.may_have_sizes() {
-            "--weigh size wants a trace with sizes, of the format csv or oracle"
+            "--weigh size wants a trace with sizes, of the format csv, oracle, msr or twitter"
+        } else if self.windows > 1
+            && (self.is_stream || self.sample.rate < 1.0 || self.part.is_some())
+        {
+            "--windows wants the whole trace: leave --stream, --sample and --part out"
+        } else if self.has_byte_sizes() && !self.terms.weighs_sizes {
+            "a --size such as 10MiB counts bytes, and each record weighs 1: say --weigh size, or a number of records such as 10k"
         } else {
             return Ok(());
         };
         Err(Failure::Usage(String::from_str(alloc, why)?))
+    }
+
+    // Whether the options go with a policy whose records weigh 1 and live for ever.
+    fn check_plain(&self, alloc: Global, policy: &Policy<'_>) -> Result<(), Failure> {
+        let why = if self.terms.weighs_sizes {
+            "takes records that weigh 1: leave --weigh size out"
+        } else if self.terms.ttl.is_some() {
+            "knows no lives: leave --ttl out"
+        } else if self.is_stream {
+            "needs the whole trace, which a stream does not keep: leave --stream out"
+        } else if self.shards > 1 && !policy.is_belady() {
+            "has no shards: leave --shards out"
+        } else {
+            return Ok(());
+        };
+        let name = policy.name;
+        Err(Failure::Usage(format!(in alloc; "{name} {why}")?))
     }
 
     /// Whether a size is a part of the footprint.
@@ -216,81 +229,32 @@ impl Replay<'_> {
         self.sizes.iter().any(|it| matches!(it, Size::Fraction(_)))
     }
 
+    fn has_byte_sizes(&self) -> bool {
+        self.sizes.iter().any(|it| matches!(it, Size::Bytes(_)))
+    }
+
     fn may_have_sizes(&self) -> bool {
-        matches!(self.format, Format::Csv | Format::Oracle)
+        !matches!(self.format, Format::Keys | Format::Arc)
+    }
+
+    /// A trace's checksum with that of the options that all parts of a run have in common.
+    pub fn checksum(&self, trace: u64) -> u64 {
+        let warmup = match self.warmup {
+            Warmup::Records(number) => number,
+            Warmup::Fraction(part) => joined(1, scaled(part)),
+        };
+        let sample = match self.part {
+            None if self.sample.rate < 1.0 => scaled(self.sample.rate),
+            _ => 0,
+        };
+        let weight = if self.terms.weighs_sizes { 2 } else { 1 };
+        let ttl = self.terms.ttl.unwrap_or(0);
+        let options = joined(joined(joined(weight, ttl), self.shards as u64), warmup);
+        joined(joined(trace, options), sample)
     }
 }
 
-// The number from 1 on that an option has.
-fn counted(alloc: Global, matches: &ArgMatches<'_>, name: &str) -> Result<Option<usize>, Failure> {
-    let Some(word) = matches.get_str(name) else {
-        return Ok(None);
-    };
-    match decimal(word.as_bytes()) {
-        Some(number) if number > 0 => Ok(Some(number as usize)),
-        _ => Err(Failure::Usage(format!(in alloc;
-            "--{name} must be a number from 1, and not '{word}'"
-        )?)),
-    }
-}
-
-fn terms_of(alloc: Global, matches: &ArgMatches<'_>) -> Result<Terms, Failure> {
-    let weighs_sizes = match matches.get_str("weigh") {
-        None | Some("one") => false,
-        Some("size") => true,
-        Some(word) => return Err(crate::nearest::unknown(alloc, "weight", word, &["one", "size"])),
-    };
-    let ttl = match matches.get_str("ttl") {
-        None => None,
-        Some(word) => match count(word) {
-            Some(ttl) if ttl > 0 => Some(ttl),
-            _ => return Err(Failure::Usage(format!(in alloc;
-                "--ttl must be a number from 1, and not '{word}'"
-            )?)),
-        },
-    };
-    Ok(Terms { weighs_sizes, ttl })
-}
-
-fn warmup_of(alloc: Global, word: &str) -> Result<Warmup, Failure> {
-    match (fraction(word), count(word)) {
-        (Some(part), _) if part < 1.0 => Ok(Warmup::Fraction(part)),
-        (None, Some(number)) => Ok(Warmup::Records(number)),
-        _ => Err(Failure::Usage(format!(in alloc;
-            "--warmup must be a number of requests or a part of them below 1, such as 0.2, and not '{word}'"
-        )?)),
-    }
-}
-
-// The sample that is replayed, what is said of it, and whether it is one of the parts of the trace.
-fn sample_of(alloc: Global, matches: &ArgMatches<'_>) -> Result<(Sample, String, bool), Failure> {
-    match (matches.get_str("sample"), matches.get_str("part")) {
-        (None, None) => Ok((Sample::ALL, String::new(alloc), false)),
-        (Some(_), Some(_)) => Err(Failure::Usage(format!(in alloc;
-            "--sample and --part do not go together"
-        )?)),
-        (Some(word), None) => match fraction(word) {
-            Some(rate) if rate > 0.0 && rate <= 1.0 => {
-                let name = format!(in alloc; "a sample of {word} of the keys, sizes scaled")?;
-                Ok((Sample::first(rate), name, false))
-            }
-            _ => Err(Failure::Usage(format!(in alloc;
-                "--sample must be a part above 0 such as 0.01, and not '{word}'"
-            )?)),
-        },
-        (None, Some(word)) => {
-            let (part, parts) = word.split_once('/').unwrap_or((word, ""));
-            match (decimal(part.as_bytes()), decimal(parts.as_bytes())) {
-                (Some(part), Some(parts)) if part > 0 && part <= parts => {
-                    let name = format!(in alloc;
-                        "part {part} of {parts} of the keys, sizes scaled"
-                    )?;
-                    Ok((Sample::part(part, parts), name, true))
-                }
-                _ => Err(Failure::Usage(format!(in alloc;
-                    "--part must be such as 1/4, and not '{word}'"
-                )?)),
-            }
-        }
-    }
+// A part of 1 as a number.
+fn scaled(part: f64) -> u64 {
+    saturating_f64_to_u64(part * 9007199254740992.0)
 }

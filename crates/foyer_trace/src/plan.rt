@@ -1,16 +1,18 @@
 //! What is replayed: the policies, and the sizes of the caches.
 
 use crate::failure::Failure;
-use crate::number::{count, fraction, part_of};
-use crate::policy::{Kind, Policy};
+use crate::number::{count, count_of_bytes, fraction, part_of};
+use crate::policy::Policy;
 use crate::trace::{Terms, Totals};
 use std::alloc::Global;
 
 /// The size of a cache as it was asked for.
 #[derive(Clone, Copy)]
 pub enum Size {
-    /// So many records, or bytes.
+    /// So many records, or bytes if records weigh their sizes.
     Absolute(u64),
+    /// So many bytes.
+    Bytes(u64),
     /// A part of the trace's footprint.
     Fraction(f64),
 }
@@ -19,10 +21,11 @@ pub enum Size {
 pub fn sizes_of(alloc: Global, list: &str) -> Result<Vec<Size>, Failure> {
     let mut sizes = Vec::new(alloc);
     for word in list.split(',') {
-        let size = match (fraction(word), count(word)) {
-            (Some(part), _) => Size::Fraction(part),
-            (None, Some(number)) => Size::Absolute(number),
-            (None, None) => {
+        let size = match (fraction(word), count(word), count_of_bytes(word)) {
+            (Some(part), _, _) => Size::Fraction(part),
+            (None, Some(number), _) => Size::Absolute(number),
+            (None, None, Some(number)) => Size::Bytes(number),
+            (None, None, None) => {
                 return Err(Failure::Usage(format!(in alloc;
                     "a size must be a number such as 10k or 64MiB, or a fraction of the footprint such as 0.01, and not '{word}'"
                 )?));
@@ -77,11 +80,14 @@ impl<'a> Plan<'a> {
     }
 }
 
+/// Whether a policy stands for LRU at all sizes.
+pub fn has_curve(policies: &[Policy<'_>]) -> bool {
+    policies.iter().any(|policy| policy.is_curve())
+}
+
 /// Whether a policy is Belady's.
 pub fn has_belady(policies: &[Policy<'_>]) -> bool {
-    policies
-        .iter()
-        .any(|policy| matches!(policy.kind, Kind::Belady))
+    policies.iter().any(|policy| policy.is_belady())
 }
 
 /// The capacities of sizes, in ascending order and each once. Where a sample of this rate is replayed, `is_whole` says
@@ -108,7 +114,7 @@ pub fn capacities_of(
     let mut capacities: Vec<Capacity> = Vec::new(alloc);
     for size in sizes {
         let shown = match size {
-            Size::Absolute(number) => *number,
+            Size::Absolute(number) | Size::Bytes(number) => *number,
             Size::Fraction(part) => part_of(whole, *part).max(1),
         };
         let scaled = if rate < 1.0 {

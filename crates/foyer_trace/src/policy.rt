@@ -3,8 +3,9 @@
 use crate::failure::Failure;
 use crate::nearest::unknown;
 use crate::number::{decimal, ratio};
+use crate::reference::Reference;
 use foyer_policy::{Eviction, Lfu, LfuConfig, Lru, LruConfig, Ratio, S3Fifo, S3FifoConfig};
-use std::alloc::Global;
+use std::alloc::{AllocError, Global};
 
 /// A policy with its configuration.
 #[derive(Drop)]
@@ -18,17 +19,42 @@ pub enum Kind {
     Belady,
 }
 
+/// What replays a trace.
+#[derive(Drop)]
+pub enum Engine {
+    /// A core, or Belady's cache.
+    Core(Kind),
+    /// LRU at all sizes at once.
+    Curve,
+    /// Another policy, to compare with.
+    Reference(Reference),
+}
+
 /// A policy as it was asked for.
 #[derive(Drop)]
 pub struct Policy<'a> {
-    pub kind: Kind,
+    pub engine: Engine,
     /// Its name.
     pub name: &'a str,
     /// The parameters that were given, as they were written.
     pub parameters: String,
 }
 
-const NAMES: [&str; 7] = ["all", "fifo", "lru", "lfu", "s3fifo", "sieve", "belady"];
+const NAMES: [&str; 13] = [
+    "all",
+    "fifo",
+    "lru",
+    "lfu",
+    "s3fifo",
+    "sieve",
+    "belady",
+    "lru-curve",
+    "arc",
+    "lirs",
+    "2q",
+    "lru-k",
+    "s3fifo-paper",
+];
 
 const ALL: [&str; 5] = ["fifo", "lru", "lfu", "s3fifo", "sieve"];
 
@@ -76,31 +102,50 @@ fn distinct<'a>(alloc: Global, policies: Vec<Policy<'a>>) -> Result<Vec<Policy<'
 
 // A policy in its default configuration.
 fn plain<'a>(alloc: Global, name: &'a str) -> Result<Policy<'a>, Failure> {
-    let kind = match name {
-        "fifo" => Kind::Fifo,
-        "lru" => Kind::Lru(LruConfig::default()),
-        "lfu" => Kind::Lfu(LfuConfig::default()),
-        "s3fifo" => Kind::S3Fifo(S3FifoConfig::default()),
-        "sieve" => Kind::Sieve,
-        "belady" => Kind::Belady,
-        _ => return Err(unknown(alloc, "policy", name, NAMES.as_slice())),
+    let engine = match name {
+        "fifo" => Engine::Core(Kind::Fifo),
+        "lru" => Engine::Core(Kind::Lru(LruConfig::default())),
+        "lfu" => Engine::Core(Kind::Lfu(LfuConfig::default())),
+        "s3fifo" => Engine::Core(Kind::S3Fifo(S3FifoConfig::default())),
+        "sieve" => Engine::Core(Kind::Sieve),
+        "belady" => Engine::Core(Kind::Belady),
+        "lru-curve" => Engine::Curve,
+        _ => match Reference::of_name(name) {
+            Some(reference) => Engine::Reference(reference),
+            None => return Err(unknown(alloc, "policy", name, NAMES.as_slice())),
+        },
     };
     Ok(Policy {
-        kind,
+        engine,
         name,
         parameters: String::new(alloc),
     })
 }
 
 impl Policy<'_> {
+    /// Whether the policy is one of the core's, which take weights, lives and shards.
+    pub fn is_cores(&self) -> bool {
+        matches!(self.engine, Engine::Core(_)) && !self.is_belady()
+    }
+
+    /// Whether the policy is Belady's.
+    pub fn is_belady(&self) -> bool {
+        matches!(self.engine, Engine::Core(Kind::Belady))
+    }
+
+    /// Whether the policy's name stands for LRU at all sizes.
+    pub fn is_curve(&self) -> bool {
+        matches!(self.engine, Engine::Curve)
+    }
+
+    /// Whether the policy is one to compare with.
+    pub fn is_reference(&self) -> bool {
+        matches!(self.engine, Engine::Reference(_))
+    }
+
     /// The policy's name, with its parameters if it has some.
-    pub fn label(&self, alloc: Global) -> Result<String, Failure> {
-        let name = self.name;
-        let parameters = self.parameters.as_str();
-        if parameters.is_empty() {
-            return Ok(String::from_str(alloc, name)?);
-        }
-        Ok(format!(in alloc; "{name} ({parameters})")?)
+    pub fn label(&self, alloc: Global) -> Result<String, AllocError> {
+        label_of(alloc, self.name, self.parameters.as_str())
     }
 
     // Whether another one has the same name and parameters.
@@ -111,11 +156,13 @@ impl Policy<'_> {
     // Sets a parameter, as `small=1/10`.
     fn set(&mut self, alloc: Global, word: &str) -> Result<(), Failure> {
         let (parameter, value) = word.split_once('=').unwrap_or((word, ""));
-        match &mut self.kind {
-            Kind::Lru(config) => set_lru(alloc, config, parameter, value)?,
-            Kind::Lfu(config) => set_lfu(alloc, config, parameter, value)?,
-            Kind::S3Fifo(config) => set_s3fifo(alloc, config, parameter, value)?,
-            Kind::Fifo | Kind::Sieve | Kind::Belady => {
+        match &mut self.engine {
+            Engine::Core(Kind::Lru(config)) => set_lru(alloc, config, parameter, value)?,
+            Engine::Core(Kind::Lfu(config)) => set_lfu(alloc, config, parameter, value)?,
+            Engine::Core(Kind::S3Fifo(config)) => set_s3fifo(alloc, config, parameter, value)?,
+            Engine::Core(Kind::Fifo | Kind::Sieve | Kind::Belady)
+            | Engine::Curve
+            | Engine::Reference(_) => {
                 let name = self.name;
                 return Err(Failure::Usage(format!(in alloc;
                     "{name} has no parameters, and '{word}' is given"
@@ -131,17 +178,30 @@ impl Policy<'_> {
 
     // Whether the policy takes its configuration.
     fn check(&self, alloc: Global) -> Result<(), Failure> {
-        let checked = match &self.kind {
-            Kind::Lru(config) => Lru::check(config),
-            Kind::Lfu(config) => Lfu::check(config),
-            Kind::S3Fifo(config) => S3Fifo::check(config),
-            Kind::Fifo | Kind::Sieve | Kind::Belady => Ok(()),
+        let checked = match &self.engine {
+            Engine::Core(Kind::Lru(config)) => Lru::check(config),
+            Engine::Core(Kind::Lfu(config)) => Lfu::check(config),
+            Engine::Core(Kind::S3Fifo(config)) => S3Fifo::check(config),
+            Engine::Core(Kind::Fifo | Kind::Sieve | Kind::Belady)
+            | Engine::Curve
+            | Engine::Reference(_) => Ok(()),
         };
         let Err(error) = checked else {
             return Ok(());
         };
         let (name, parameters) = (self.name, self.parameters.as_str());
         Err(Failure::Usage(format!(in alloc; "{name}:{parameters}: {error}")?))
+    }
+}
+
+/// What stands beside a policy's line: its name and its parameters, and whether it is one to compare with.
+pub fn label_of(alloc: Global, name: &str, parameters: &str) -> Result<String, AllocError> {
+    if Reference::of_name(name).is_some() {
+        format!(in alloc; "{name} (unproved)")
+    } else if parameters.is_empty() {
+        String::from_str(alloc, name)
+    } else {
+        format!(in alloc; "{name} ({parameters})")
     }
 }
 

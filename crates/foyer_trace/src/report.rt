@@ -1,13 +1,17 @@
 //! What the runs came to, for the table, the CSV file and the pictures.
 
 ghost use Rattle.std.specs.Prelude.{◌≡◌, IfOk, None};
+ghost use Rattle.foyer_trace.specs.Rows.{AreRowsOf};
 
+use crate::curve::Curve;
 use crate::failure::Failure;
 use crate::number::{bytes, float, part_of, quotient};
+use crate::origin::Origin;
 use crate::plan::Plan;
 use crate::policy::Policy;
 use crate::run::Measured;
 use crate::trace::Totals;
+use foyer_replay::Counts;
 use std::alloc::{AllocError, Global};
 use std::num::saturating_f64_to_u64;
 
@@ -75,6 +79,16 @@ impl Row {
     }
 }
 
+/// The miss ratio of counts, of which a sample's scale makes an estimate.
+pub fn ratio_of(counts: &Counts, scale: Option<Scale>) -> f64 {
+    let gets = counts.hits.saturating_add(counts.misses);
+    let requests = match scale {
+        Some(scale) => scale.requests(gets).max(counts.misses),
+        None => gets,
+    };
+    quotient(counts.misses as u128, requests as u128)
+}
+
 /// Which ratio of a run is shown.
 #[derive(Clone, Copy)]
 pub enum Measure {
@@ -127,6 +141,25 @@ impl Scale {
     }
 }
 
+// The rows of a plan's runs, in their order.
+fn all_rows(
+    alloc: Global,
+    plan: &Plan<'_>,
+    measured: &[Measured],
+    scale: Option<Scale>,
+) -> Result<Vec<Row>, Failure>
+    ensures { scale ≡ None → IfOk result (λ rows. AreRowsOf rows.items measured.now) }
+{
+    let mut rows = Vec::new(alloc);
+    for number in 0..measured.len() {
+        let Some((policy, capacity)) = plan.run(number) else {
+            break;
+        };
+        rows.push(Row::new(policy, alloc, capacity.shown, &measured[number], scale)?)?;
+    }
+    Ok(rows)
+}
+
 /// What all runs came to.
 #[derive(Drop)]
 pub struct Report {
@@ -144,6 +177,14 @@ pub struct Report {
     pub has_sizes: bool,
     /// What stands below the table.
     pub notes: Vec<String>,
+    /// What the rows are of.
+    pub origin: Origin,
+    /// The least size that is shown: a sample's smaller ones mean nothing.
+    pub shown_from: u64,
+    /// LRU at many sizes in ascending order, if its curve was asked for.
+    pub curve: Vec<Row>,
+    /// What each row's run counted in each window, if there are several.
+    pub windows: Vec<Vec<Counts>>,
 }
 
 impl Report {
@@ -156,14 +197,10 @@ impl Report {
         totals: &Totals,
         scale: Option<Scale>,
         notes: Vec<String>,
-    ) -> Result<Report, Failure> {
-        let mut rows = Vec::new(alloc);
-        for (number, it) in measured.iter().enumerate() {
-            let Some((policy, capacity)) = plan.run(number) else {
-                break;
-            };
-            rows.push(Row::new(policy, alloc, capacity.shown, it, scale)?)?;
-        }
+    ) -> Result<Report, Failure>
+        ensures rows { scale ≡ None → IfOk result (λ report. AreRowsOf report.rows.items measured.now) }
+    {
+        let rows = all_rows(alloc, plan, measured, scale)?;
         let mut policies = Vec::new(alloc);
         for policy in plan.policies {
             policies.push(policy.label(alloc)?)?;
@@ -180,7 +217,47 @@ impl Report {
             is_in_bytes: plan.terms.weighs_sizes,
             has_sizes: totals.has_sizes,
             notes,
+            origin: Origin::default(),
+            shown_from: 0,
+            curve: Vec::new(alloc),
+            windows: Vec::new(alloc),
         })
+    }
+
+    /// Puts the curve of LRU in. A sample's sizes are larger by its rate.
+    pub fn put_curve(
+        &mut self,
+        alloc: Global,
+        policy: &Policy<'_>,
+        curve: &Curve,
+        rate: f64,
+        scale: Option<Scale>,
+    ) -> Result<(), AllocError> {
+        let sizes = curve.sizes(alloc)?;
+        let counts = curve.counts(alloc, sizes.as_slice())?;
+        for (size, counts) in sizes.iter().zip(counts.iter()) {
+            let measured = Measured {
+                counts: *counts,
+                seconds: 0.0,
+            };
+            let shown = part_of(*size as u64, 1.0 / rate);
+            self.curve
+                .push(Row::new(policy, alloc, shown, &measured, scale)?)?;
+        }
+        Ok(())
+    }
+
+    /// The rows that a policy's line goes through.
+    pub fn drawn(&self, policy: usize) -> &[Row] {
+        let is_curve = self
+            .policies
+            .get(policy)
+            .is_some_and(|it| it.as_str() == "lru-curve");
+        if is_curve && !self.curve.is_empty() {
+            self.curve.as_slice()
+        } else {
+            self.rows_of(policy)
+        }
     }
 
     /// The rows of a policy, one for each size.
@@ -189,6 +266,11 @@ impl Report {
         let start = policy.saturating_mul(sizes).min(self.rows.len());
         let end = start.saturating_add(sizes).min(self.rows.len());
         &self.rows.as_slice()[start..end]
+    }
+
+    /// Whether a row's ratios are shown.
+    pub fn shows(&self, row: &Row) -> bool {
+        row.size >= self.shown_from
     }
 
     /// The measures that are shown.
@@ -226,7 +308,7 @@ impl Report {
             let Some(row) = self.rows_of(policy).get(column) else {
                 continue;
             };
-            if row.policy.as_str() == "belady" {
+            if row.policy.as_str() == "belady" || !self.shows(row) {
                 continue;
             }
             let ratio = measure.of(row);

@@ -1,7 +1,7 @@
 //! A cache of any policy that is replayed.
 
 ghost use Rattle.std.specs.Prelude.{◌≡◌, IfOk};
-ghost use Rattle.foyer_trace.specs.Runs.{Serves};
+ghost use Rattle.foyer_trace.specs.Runs.{IsEmpty, IsNew, Serves};
 ghost use Rattle.foyer_trace.specs.Trace.{requests_of_part};
 
 use crate::belady::Belady;
@@ -44,6 +44,7 @@ fn core_of<E: Eviction>(
 ) -> Result<ReplayCore<E, ModHasher>, Failure>
 where
     E::Config: Default,
+    ensures { IfOk result (λ core. IsEmpty config capacity shards core) }
 {
     let config = RawCacheConfig {
         shards,
@@ -61,7 +62,10 @@ impl Runner {
         capacity: usize,
         shards: usize,
         terms: Terms,
-    ) -> Result<Runner, Failure> {
+    ) -> Result<Runner, Failure>
+        ensures terms { IfOk result (λ runner. runner.terms ≡ terms) }
+        ensures new { IfOk result (λ runner. IsNew kind.now capacity shards runner.core) }
+    {
         let core = match kind {
             Kind::Fifo => Core::Fifo(core_of(alloc, FifoConfig {}, capacity, shards)?),
             Kind::Lru(config) => {

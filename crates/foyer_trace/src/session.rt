@@ -1,16 +1,20 @@
 //! A replay from its options to its report.
 
+use crate::additions::{curve_of, put_curve, put_recommendation, scale_of};
 use crate::belady::Future;
 use crate::failure::Failure;
-use crate::number::{bytes, float, grouped};
+use crate::notes::{facts_of, push_warnings, shown_from, speed_of};
+use crate::number::grouped;
 use crate::options::{Outputs, Replay};
+use crate::origin::Origin;
 use crate::plan::{Plan, Size, capacities_of, has_belady, warmup_of};
 use crate::progress::Progress;
-use crate::report::{Report, Scale};
-use crate::run::{Measured, run_all};
+use crate::report::Report;
+use crate::run::{Measured, Runs, run_all};
 use crate::source::{AnyReader, Source};
 use crate::stream::stream_all;
 use crate::trace::Totals;
+use crate::windows::windows_of;
 use std::alloc::{AllocError, Global};
 use std::io::BufRead;
 use std::rt::Clock;
@@ -34,7 +38,7 @@ pub fn replay_trace<R: AllocGlobal + Clock + Eprint + Threads + Sync, B: BufRead
 ) -> Result<Report, Failure> {
     let alloc = ground.alloc;
     let reader = AnyReader::new(alloc, replay.format, replay.columns.as_ref(), reader)?;
-    let sees_all = replay.is_part && replay.has_relative_sizes();
+    let sees_all = replay.part.is_some() && replay.has_relative_sizes();
     let source = Source::new(alloc, reader, replay.sample, replay.skips_bad, sees_all);
     let jobs = match replay.jobs {
         Some(jobs) => jobs,
@@ -62,7 +66,7 @@ fn plan_of<'a>(
             totals,
             weighs_sizes,
             replay.sample.rate,
-            replay.is_part,
+            replay.part.is_some(),
         )?,
         shards: replay.shards,
         terms: replay.terms,
@@ -91,10 +95,29 @@ fn replay_kept<R: AllocGlobal + Clock + Eprint + Threads + Sync, B: BufRead + Dr
         ground.outputs.is_quiet,
     );
     let start = Instant::now(ground.rt);
-    let measured = run_all(ground.rt, alloc, &trace, &plan, jobs, &progress)?;
+    let totals = trace.totals;
+    let windows = windows_of(alloc, trace, replay.windows)?;
+    let windows = windows.as_slice();
+    let mut runs = run_all(ground.rt, alloc, windows, &plan, jobs, &progress)?;
+    let curve = curve_of(alloc, windows, &plan)?;
+    if let Some(curve) = &curve {
+        runs.put_curve(alloc, &plan, curve)?;
+    }
     progress.end();
     let seconds = since(ground.rt, &start);
-    report_of(ground, replay, &plan, measured, trace.totals, jobs, seconds)
+    let Runs {
+        measured,
+        windows: counts,
+    } = runs;
+    let mut report = report_of(ground, replay, &plan, measured, totals, jobs, seconds)?;
+    if replay.windows > 1 {
+        report.windows = counts;
+    }
+    if let Some(curve) = &curve {
+        put_curve(alloc, &mut report, replay, &plan, &totals, curve)?;
+    }
+    put_recommendation(alloc, &mut report, replay, &plan, windows, &progress)?;
+    Ok(report)
 }
 
 fn replay_stream<R: AllocGlobal + Clock + Eprint + Threads + Sync, B: BufRead + Drop>(
@@ -122,7 +145,9 @@ fn replay_stream<R: AllocGlobal + Clock + Eprint + Threads + Sync, B: BufRead + 
     let totals = source.totals();
     check_totals(alloc, replay, &totals)?;
     check_warmup(alloc, replay, &plan, &totals)?;
-    report_of(ground, replay, &plan, measured, totals, jobs, seconds)
+    let mut report = report_of(ground, replay, &plan, measured, totals, jobs, seconds)?;
+    report.recommend(alloc, replay.target)?;
+    Ok(report)
 }
 
 fn since<R: Clock>(rt: &R, start: &std::io::Result<Instant>) -> f64 {
@@ -149,7 +174,7 @@ fn check_totals(alloc: Global, replay: &Replay<'_>, totals: &Totals) -> Result<(
         )?));
     }
     // A part may have no keys, and is added to the others all the same.
-    if totals.records == 0 && !replay.is_part {
+    if totals.records == 0 && replay.part.is_none() {
         return Err(Failure::Other(format!(in alloc;
             "{}: no request is in the sample",
             replay.path
@@ -157,6 +182,20 @@ fn check_totals(alloc: Global, replay: &Replay<'_>, totals: &Totals) -> Result<(
     }
     if replay.terms.weighs_sizes && !totals.has_sizes {
         return Err(no_sizes(alloc));
+    }
+    if replay.windows > 1 && replay.windows as u64 > totals.records {
+        let windows = grouped(alloc, replay.windows as u128)?;
+        let requests = grouped(alloc, totals.records as u128)?;
+        return Err(Failure::Other(format!(in alloc;
+            "{windows} windows are more than the {requests} requests"
+        )?));
+    }
+    let plain = replay.policies.iter().find(|it| !it.is_cores());
+    if let Some(policy) = plain.filter(|_| totals.has_lives) {
+        return Err(Failure::Other(format!(in alloc;
+            "{} knows no lives, and the trace has some: leave the column ttl out by --columns",
+            policy.name
+        )?));
     }
     if has_belady(replay.policies.as_slice()) && totals.records >= Future::MOST {
         return Err(Failure::Other(format!(in alloc;
@@ -173,7 +212,7 @@ fn check_warmup(
     plan: &Plan<'_>,
     totals: &Totals,
 ) -> Result<(), Failure> {
-    if replay.is_part || plan.warmup < totals.records {
+    if replay.part.is_some() || plan.warmup < totals.records {
         return Ok(());
     }
     let requests = grouped(alloc, totals.records as u128)?;
@@ -193,42 +232,24 @@ fn report_of<R>(
 ) -> Result<Report, Failure> {
     let alloc = ground.alloc;
     let title = title_of(ground, replay, &totals)?;
-    let is_sample = replay.sample.rate < 1.0 && !replay.is_part;
-    let scale = if is_sample {
-        Some(Scale::of(&totals, replay.sample.rate))
-    } else {
-        None
-    };
+    let scale = scale_of(replay, &totals);
     let mut notes = Vec::new(alloc);
     notes.push(facts_of(alloc, plan, &totals)?)?;
-    if ground.outputs.is_quiet {
-        return Report::new(
-            alloc,
-            title,
-            plan,
-            measured.as_slice(),
-            &totals,
-            scale,
-            notes,
-        );
+    push_warnings(alloc, &mut notes, replay, plan, &totals)?;
+    if !ground.outputs.is_quiet {
+        notes.push(speed_of(alloc, plan, &totals, jobs, seconds)?)?;
     }
-    let runs = plan.runs();
-    let jobs = jobs.min(runs).max(1);
-    let requests = float(totals.records as u128) * float(runs as u128);
-    let rate = requests / seconds.max(0.000001) / 1e6;
-    let part = rate / float(jobs as u128);
-    notes.push(format!(in alloc;
-        "{runs} runs in {seconds:.2} s, {jobs} at a time: {rate:.2} million requests a second, {part:.2} million a job"
-    )?)?;
-    Report::new(
-        alloc,
-        title,
-        plan,
-        measured.as_slice(),
-        &totals,
-        scale,
-        notes,
-    )
+    let measured = measured.as_slice();
+    let mut report = Report::new(alloc, title, plan, measured, &totals, scale, notes)?;
+    let (part, parts) = replay.part.unwrap_or((1, 1));
+    report.origin = Origin {
+        part,
+        parts,
+        read: totals.read,
+        checksum: replay.checksum(totals.checksum),
+    };
+    report.shown_from = shown_from(&totals, plan.terms.weighs_sizes, replay.sample.rate);
+    Ok(report)
 }
 
 // The trace, how many requests it has, and whether a sample is replayed.
@@ -238,7 +259,7 @@ fn title_of<R>(
     totals: &Totals,
 ) -> Result<String, AllocError> {
     let alloc = ground.alloc;
-    let path = replay.path;
+    let path = replay.name;
     let name = match ground.outputs.title {
         Some(title) => title,
         None if path == "-" => "standard input",
@@ -251,43 +272,4 @@ fn title_of<R>(
         title.push_str(replay.sample_name.as_str())?;
     }
     Ok(title)
-}
-
-// What is known of the trace, in a line.
-fn facts_of(alloc: Global, plan: &Plan<'_>, totals: &Totals) -> Result<String, AllocError> {
-    let mut text = format!(in alloc; "{} requests", grouped(alloc, totals.records as u128)?)?;
-    if totals.gets != totals.records {
-        write!(text, " ({} gets)", grouped(alloc, totals.gets as u128)?)?;
-    }
-    if totals.records != totals.read {
-        write!(text, " of {} read", grouped(alloc, totals.read as u128)?)?;
-    }
-    if totals.keys > 0 {
-        write!(
-            text,
-            ", {} distinct keys",
-            grouped(alloc, totals.keys as u128)?
-        )?;
-    }
-    if totals.has_sizes {
-        if totals.keys > 0 {
-            write!(text, " of {}", bytes(alloc, totals.key_bytes)?)?;
-        }
-        write!(text, ", {} requested", bytes(alloc, totals.bytes)?)?;
-    }
-    if totals.bad > 0 {
-        write!(
-            text,
-            ", {} bad records left out",
-            grouped(alloc, totals.bad as u128)?
-        )?;
-    }
-    if plan.warmup > 0 {
-        write!(
-            text,
-            ", the first {} not counted",
-            grouped(alloc, plan.warmup as u128)?
-        )?;
-    }
-    Ok(text)
 }

@@ -6,9 +6,12 @@ use crate::format::Format;
 use crate::format::arc::ArcReader;
 use crate::format::columns::Wanted;
 use crate::format::keys::KeysReader;
+use crate::format::msr::MsrReader;
 use crate::format::oracle::OracleReader;
 use crate::format::rows::CsvReader;
+use crate::format::twitter::TwitterReader;
 use crate::key::Sample;
+use crate::origin::checksum_with;
 use crate::record::{Record, RecordReader};
 use crate::trace::{PART, Part, Totals, Trace};
 use foyer_replay::Operation;
@@ -23,6 +26,8 @@ pub enum AnyReader<B: BufRead + Drop> {
     Csv(CsvReader<B>),
     Oracle(OracleReader<B>),
     Arc(ArcReader<B>),
+    Msr(MsrReader<B>),
+    Twitter(TwitterReader<B>),
 }
 
 impl<B: BufRead + Drop> AnyReader<B> {
@@ -38,6 +43,8 @@ impl<B: BufRead + Drop> AnyReader<B> {
             Format::Csv => Ok(AnyReader::Csv(CsvReader::new(alloc, reader, wanted)?)),
             Format::Oracle => Ok(AnyReader::Oracle(OracleReader::new(alloc, reader))),
             Format::Arc => Ok(AnyReader::Arc(ArcReader::new(alloc, reader))),
+            Format::Msr => Ok(AnyReader::Msr(MsrReader::new(alloc, reader))),
+            Format::Twitter => Ok(AnyReader::Twitter(TwitterReader::new(alloc, reader))),
         }
     }
 }
@@ -49,6 +56,8 @@ impl<B: BufRead + Drop> RecordReader for AnyReader<B> {
             AnyReader::Csv(reader) => reader.next_record(),
             AnyReader::Oracle(reader) => reader.next_record(),
             AnyReader::Arc(reader) => reader.next_record(),
+            AnyReader::Msr(reader) => reader.next_record(),
+            AnyReader::Twitter(reader) => reader.next_record(),
         }
     }
 
@@ -58,6 +67,8 @@ impl<B: BufRead + Drop> RecordReader for AnyReader<B> {
             AnyReader::Csv(reader) => reader.has_sizes(),
             AnyReader::Oracle(reader) => reader.has_sizes(),
             AnyReader::Arc(reader) => reader.has_sizes(),
+            AnyReader::Msr(reader) => reader.has_sizes(),
+            AnyReader::Twitter(reader) => reader.has_sizes(),
         }
     }
 }
@@ -179,6 +190,7 @@ impl<B: BufRead + Drop> Source<B> {
 
     fn count_read(&mut self, record: &Record) {
         self.totals.read = self.totals.read.saturating_add(1);
+        self.totals.checksum = checksum_with(self.totals.checksum, record);
         if record.operation == Operation::Get {
             self.totals.read_gets = self.totals.read_gets.saturating_add(1);
             self.totals.read_bytes = self.totals.read_bytes.saturating_add(record.size as u128);
@@ -187,6 +199,7 @@ impl<B: BufRead + Drop> Source<B> {
 
     fn count(&mut self, record: &Record) {
         self.totals.records = self.totals.records.saturating_add(1);
+        self.totals.has_lives = self.totals.has_lives || record.ttl.is_some();
         if record.operation == Operation::Get {
             self.totals.gets = self.totals.gets.saturating_add(1);
             self.totals.bytes = self.totals.bytes.saturating_add(record.size as u128);

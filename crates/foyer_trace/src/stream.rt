@@ -2,6 +2,7 @@
 
 use crate::failure::Failure;
 use crate::plan::Plan;
+use crate::policy::Engine;
 use crate::progress::Progress;
 use crate::run::{Measured, sum_of};
 use crate::runner::Runner;
@@ -54,21 +55,18 @@ pub fn stream_all<R: Clock + Eprint + Threads + Sync, B: BufRead + Drop>(
 ) -> Result<Vec<Measured>, Failure> {
     let mut running = Vec::with_capacity(alloc, plan.runs())?;
     for number in 0..plan.runs() {
-        if let Some((policy, capacity)) = plan.run(number) {
-            let runner = Runner::new(
-                alloc,
-                &policy.kind,
-                capacity.scaled,
-                plan.shards,
-                plan.terms,
-            )?;
-            let measured = Measured::default();
-            running.push(Running {
-                runner,
-                measured,
-                failure: None,
-            })?;
-        }
+        let Some((policy, capacity)) = plan.run(number) else {
+            break;
+        };
+        // The others were refused.
+        let Engine::Core(kind) = &policy.engine else {
+            break;
+        };
+        running.push(Running {
+            runner: Runner::new(alloc, kind, capacity.scaled, plan.shards, plan.terms)?,
+            measured: Measured::default(),
+            failure: None,
+        })?;
     }
     let mut records = Vec::with_capacity(alloc, PART)?;
     let mut left = plan.warmup as usize;

@@ -1,7 +1,8 @@
 //! The table of a report, as text and as HTML.
 
-use crate::report::{Measure, Report};
+use crate::report::{Measure, Report, Row};
 use crate::svg::push_escaped;
+use crate::windows::push_windows;
 use std::alloc::{AllocError, Global};
 
 /// The whole report as text.
@@ -13,6 +14,7 @@ pub fn text_of(alloc: Global, report: &Report) -> Result<String, AllocError> {
         text.push('\n')?;
         push_table(alloc, &mut text, report, *measure)?;
     }
+    push_windows(alloc, &mut text, report)?;
     if !report.notes.is_empty() {
         text.push('\n')?;
     }
@@ -50,17 +52,31 @@ fn push_table(
     for (policy, label) in report.policies.iter().enumerate() {
         write!(text, "{label:labels$}")?;
         for (column, row) in report.rows_of(policy).iter().enumerate() {
-            let ratio = format!(in alloc; "{:.4}", measure.of(row))?;
-            let is_least = report
-                .least(alloc, measure, column)?
-                .is_some_and(|least| least.as_str() == ratio.as_str());
-            let is_marked = is_least && row.policy.as_str() != "belady";
+            let (ratio, is_marked) = cell_of(alloc, report, measure, column, row)?;
             let mark = if is_marked { '*' } else { ' ' };
             write!(text, "  {ratio:>width$}{mark}")?;
         }
         end_line(text)?;
     }
     Ok(())
+}
+
+// What stands at a policy's size, and whether it is the least of its column.
+fn cell_of(
+    alloc: Global,
+    report: &Report,
+    measure: Measure,
+    column: usize,
+    row: &Row,
+) -> Result<(String, bool), AllocError> {
+    if !report.shows(row) {
+        return Ok((String::from_str(alloc, "-")?, false));
+    }
+    let ratio = format!(in alloc; "{:.4}", measure.of(row))?;
+    let is_least = report
+        .least(alloc, measure, column)?
+        .is_some_and(|least| least.as_str() == ratio.as_str());
+    Ok((ratio, is_least && row.policy.as_str() != "belady"))
 }
 
 // How wide a column is, which has room for the longest size.
@@ -105,11 +121,8 @@ pub fn push_html(
         push_escaped(text, label.as_str())?;
         text.push_str("</th>")?;
         for (column, row) in report.rows_of(policy).iter().enumerate() {
-            let ratio = format!(in alloc; "{:.4}", measure.of(row))?;
-            let is_least = report
-                .least(alloc, measure, column)?
-                .is_some_and(|least| least.as_str() == ratio.as_str());
-            if is_least && row.policy.as_str() != "belady" {
+            let (ratio, is_marked) = cell_of(alloc, report, measure, column, row)?;
+            if is_marked {
                 write!(text, "<td><b>{ratio}</b></td>")?;
             } else {
                 write!(text, "<td>{ratio}</td>")?;

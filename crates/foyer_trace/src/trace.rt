@@ -1,7 +1,8 @@
 //! A trace in memory, in parts whose columns are as narrow as their numbers allow.
 
-ghost use Rattle.std.specs.Prelude.{◌≡◌, length, slice_index};
-ghost use Rattle.foyer_trace.specs.Trace.{expiry_at, life_at, number_at, operation_at, request_at, weight_at};
+ghost use Rattle.std.specs.Prelude.{◌≡◌, ℕ, ◌+◌, ◌-◌, ◌<◌, ◌^◌, IfOk, true, length, map, min, replicate, slice_index, slice_index_or};
+ghost use Rattle.foyer_replay.specs.declared.request.Operation.TheVariants.{Get};
+ghost use Rattle.foyer_trace.specs.Trace.{AreWithin, HasNumbers, expiry_at, life_at, number_at, operation_at, records_in, request_at, request_of, requests_of_part, weight_at};
 
 use crate::record::Record;
 use foyer_replay::{Operation, Request, Requests};
@@ -23,24 +24,18 @@ enum Column {
 
 impl Column {
     // The column of these numbers.
-    fn of(alloc: Global, numbers: Vec<u64>) -> Result<Column, AllocError> {
-        let mut least = u64::MAX;
-        let mut most = 0;
-        for number in &numbers {
-            least = least.min(*number);
-            most = most.max(*number);
-        }
+    fn of(alloc: Global, numbers: Vec<u64>) -> Result<Column, AllocError>
+        ensures { IfOk result (λ column. HasNumbers column numbers.items) }
+    {
+        let (least, most) = bounds_of(numbers.as_slice());
         if least >= most {
             return Ok(Column::Same(most));
         }
-        if most.wrapping_sub(least) > u32::MAX as u64 {
+        if most - least > u32::MAX as u64 {
             return Ok(Column::Wide(numbers));
         }
-        let mut column = Vec::with_capacity(alloc, numbers.len())?;
-        for number in &numbers {
-            column.push(u32::try_from(number.wrapping_sub(least)).unwrap_or(0))?;
-        }
-        Ok(Column::Narrow(least, column))
+        let more = above(alloc, numbers.as_slice(), least)?;
+        Ok(Column::Narrow(least, more))
     }
 
     #[inline]
@@ -55,6 +50,31 @@ impl Column {
             Column::Wide(numbers) => number_in(numbers.as_slice(), place),
         }
     }
+}
+
+// The least and the greatest of some numbers; the greatest number and 0 if there are none.
+fn bounds_of(numbers: &[u64]) -> (u64, u64)
+    ensures { AreWithin result.0 result.1 numbers.now }
+{
+    let (mut least, mut most) = (u64::MAX, 0);
+    for place in 0..numbers.len() {
+        least = least.min(numbers[place]);
+        most = most.max(numbers[place]);
+    }
+    (least, most)
+}
+
+// By how much each of some numbers is above a base.
+fn above(alloc: Global, numbers: &[u64], base: u64) -> Result<Vec<u32>, AllocError>
+    requires { AreWithin base (base + 2 ^ 32 - 1) numbers.now }
+    ensures { IfOk result (λ more. (place : ℕ) → place < length numbers.now →
+        base + slice_index more.items place ≡ slice_index numbers.now place) }
+{
+    let mut more = Vec::with_capacity(alloc, numbers.len())?;
+    for place in 0..numbers.len() {
+        more.push((numbers[place] - base) as u32)?;
+    }
+    Ok(more)
 }
 
 // What stands in the column of lives for a record that lives for ever.
@@ -72,16 +92,19 @@ pub struct Part {
 
 impl Part {
     /// The part of these records.
-    pub fn new(alloc: Global, records: &[Record]) -> Result<Part, AllocError> {
+    pub fn new(alloc: Global, records: &[Record]) -> Result<Part, AllocError>
+        ensures { IfOk result (λ part. (terms : Terms) → requests_of_part terms part ≡ map (request_of terms) records.now) }
+    {
         let mut keys = Vec::with_capacity(alloc, records.len())?;
         let mut times = Vec::with_capacity(alloc, records.len())?;
         let mut sizes = Vec::with_capacity(alloc, records.len())?;
         let mut ttls = Vec::with_capacity(alloc, records.len())?;
-        for record in records {
-            keys.push(record.key)?;
-            times.push(record.time)?;
-            sizes.push(record.size)?;
-            ttls.push(record.ttl.unwrap_or(EVER))?;
+        for place in 0..records.len() {
+            let it = &records[place];
+            keys.push(it.key)?;
+            times.push(it.time)?;
+            sizes.push(it.size)?;
+            ttls.push(it.ttl.unwrap_or(EVER))?;
         }
         Ok(Part {
             keys,
@@ -102,6 +125,21 @@ impl Part {
     /// The keys.
     pub fn keys(&self) -> &[u64] {
         self.keys.as_slice()
+    }
+
+    /// The records from a place on to another.
+    pub fn slice(&self, alloc: Global, start: usize, end: usize) -> Result<Part, AllocError> {
+        let mut records = Vec::with_capacity(alloc, end.saturating_sub(start))?;
+        for place in start..end {
+            records.push(Record {
+                key: number_in(self.keys.as_slice(), place),
+                time: self.times.at(place),
+                size: self.sizes.at(place),
+                ttl: Some(self.ttls.at(place)).filter(|ttl| *ttl != EVER),
+                operation: self.operation(place),
+            })?;
+        }
+        Part::new(alloc, records.as_slice())
     }
 
     /// What the record at a place asks.
@@ -207,19 +245,31 @@ fn small_in(numbers: &[u32], place: usize) -> u32
 }
 
 // What the records ask, or nothing if all are gets.
-fn operations_of(alloc: Global, records: &[Record]) -> Result<Vec<Operation>, AllocError> {
+fn operations_of(alloc: Global, records: &[Record]) -> Result<Vec<Operation>, AllocError>
+    ensures { IfOk result (λ operations. (place : ℕ) →
+        slice_index_or operations.items place Get ≡ slice_index_or (map (λ it. it.operation) records.now) place Get) }
+{
     let mut operations = Vec::new(alloc);
-    if records
-        .iter()
-        .all(|record| record.operation == Operation::Get)
-    {
+    if are_gets(records) {
         return Ok(operations);
     }
     operations.reserve(records.len())?;
-    for record in records {
-        operations.push(record.operation)?;
+    for place in 0..records.len() {
+        operations.push(records[place].operation)?;
     }
     Ok(operations)
+}
+
+// Whether all records are gets.
+fn are_gets(records: &[Record]) -> bool
+    ensures { result ≡ true → map (λ it. it.operation) records.now ≡ replicate (length records.now) Get }
+{
+    for place in 0..records.len() {
+        let Operation::Get = records[place].operation else {
+            return false;
+        };
+    }
+    true
 }
 
 /// The requests that the records of a part become.
@@ -271,11 +321,28 @@ pub struct Totals {
     pub key_bytes: u128,
     /// Whether records have sizes.
     pub has_sizes: bool,
+    /// Whether some record lives for a time.
+    pub has_lives: bool,
+    /// The checksum of all records that were read.
+    pub checksum: u64,
 }
 
-/// A trace in memory.
+/// A trace in memory, or a window of one with what is known of the whole.
 #[derive(Drop)]
 pub struct Trace {
     pub parts: Vec<Part>,
     pub totals: Totals,
+}
+
+impl Trace {
+    /// How many records there are, or 2^64 - 1 if there are more.
+    pub fn len(&self) -> u64
+        ensures { result ≡ min (records_in self.now.parts.items) (2 ^ 64 - 1) }
+    {
+        let mut count = 0u64;
+        for part in &self.parts {
+            count = count.saturating_add(part.len() as u64);
+        }
+        count
+    }
 }

@@ -141,7 +141,8 @@ impl Columns {
         }
     }
 
-    // Whether a row is a header: a column of numbers has a word there, or that of keys or operations has one of its names.
+    // Whether a row is a header: a column of numbers has a word there, or that of keys or operations has one of its
+    // names.
     fn are_headed_by(&self, row: &ByteRecord) -> bool {
         let is_word = |place: Option<usize>| {
             place
@@ -176,7 +177,11 @@ pub fn columns_of(
     let mut columns = Columns::default();
     let Some(wanted) = wanted else {
         check_commas(alloc, first)?;
-        return Ok(columns_by_header(first).unwrap_or((columns_by_count(first.len()), false)));
+        if let Some(columns) = columns_by_header(first) {
+            return Ok((columns, true));
+        }
+        check_count(alloc, first.len())?;
+        return Ok((columns_by_count(first.len()), false));
     };
     let mut has_names = false;
     for (role, place) in wanted {
@@ -202,8 +207,18 @@ fn check_commas(alloc: Global, row: &ByteRecord) -> Result<(), Failure> {
     )?))
 }
 
+// Whether so many columns may be a time, a key, a size, an operation and a life, where no header names them.
+fn check_count(alloc: Global, count: usize) -> Result<(), Failure> {
+    if count <= ROLES.len() {
+        return Ok(());
+    }
+    Err(Failure::Usage(format!(in alloc;
+        "the first row has {count} columns and no header: say --columns, such as time,-,key, or --format msr or twitter"
+    )?))
+}
+
 // The columns that a header names, if the row is one. Where several have names of one role, the best name is taken.
-fn columns_by_header(row: &ByteRecord) -> Option<(Columns, bool)> {
+fn columns_by_header(row: &ByteRecord) -> Option<Columns> {
     let mut columns = Columns::default();
     let mut has_key = false;
     for role in ROLES {
@@ -217,7 +232,7 @@ fn columns_by_header(row: &ByteRecord) -> Option<(Columns, bool)> {
             }
         }
     }
-    if has_key { Some((columns, true)) } else { None }
+    if has_key { Some(columns) } else { None }
 }
 
 // The columns of a trace with no header, of which nothing was said: the key alone, or time, key, size, op and ttl.

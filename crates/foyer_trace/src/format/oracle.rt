@@ -43,6 +43,11 @@ impl<B: Read + Drop> OracleReader<B> {
     }
 }
 
+// Whether all bytes are those of text. A record's are not: its sizes and places have upper bytes of 0 or 255.
+fn is_text(bytes: &[u8]) -> bool {
+    bytes.iter().all(|byte| matches!(*byte, b' '..=b'~' | b'\t' | b'\n' | b'\r'))
+}
+
 // The number that these bytes are, little endian.
 fn number(bytes: &[u8]) -> u64 {
     bytes
@@ -61,6 +66,11 @@ impl<B: Read + Drop> RecordReader for OracleReader<B> {
         if filled < LENGTH {
             return Err(Failure::Bad(format!(in self.alloc;
                 "expected 24 bytes, and the file ends after {filled}"
+            )?));
+        }
+        if is_text(record.as_slice()) {
+            return Err(Failure::Other(format!(in self.alloc;
+                "the trace is text, and no binary records: say --format keys or csv"
             )?));
         }
         Ok(Some(Record {

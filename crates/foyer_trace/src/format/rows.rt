@@ -2,8 +2,9 @@
 
 use crate::failure::Failure;
 use crate::format::columns::{Columns, Role, Wanted, columns_of};
+use crate::format::operation_of;
 use crate::key::key_of_text;
-use crate::number::decimal;
+use crate::number::{decimal, whole_part};
 use crate::record::{Record, RecordReader};
 use csv::{ByteRecord, ErrorKind, Reader, ReaderBuilder};
 use foyer_replay::Operation;
@@ -47,6 +48,7 @@ impl<R: Read + Drop> CsvReader<R> {
 
     fn read_row(&mut self) -> Result<bool, Failure> {
         match self.rows.read_byte_record(&mut self.row) {
+            Ok(_) if self.row.as_slice().contains(&0) => Err(Failure::no_text(self.alloc)),
             Ok(found) => Ok(found),
             Err(error) => match error.kind() {
                 ErrorKind::OutOfMemory => Err(Failure::Memory),
@@ -68,14 +70,14 @@ impl<R: Read + Drop> CsvReader<R> {
         }
     }
 
-    // The number of a column, without what is behind a decimal point.
+    // The number of a column; of a time or a life its whole part.
     fn number(&self, role: Role, place: usize) -> Result<u64, Failure> {
         let field = self.field(role, place)?;
-        let whole = match field.iter().position(|byte| *byte == b'.') {
-            Some(point) if role == Role::Time => &field[..point],
-            _ => field,
+        let number = match role {
+            Role::Time | Role::Ttl => whole_part(field.trim_ascii()),
+            _ => decimal(field.trim_ascii()),
         };
-        match decimal(whole.trim_ascii()) {
+        match number {
             Some(number) => Ok(number),
             None => Err(self.bad(role, "a number below 2^64", field)),
         }
@@ -133,25 +135,9 @@ impl<R: Read + Drop> CsvReader<R> {
     }
 
     fn operation(&self, word: &[u8]) -> Result<Operation, Failure> {
-        const GETS: [&str; 4] = ["get", "gets", "read", "r"];
-        const PUTS: [&str; 12] = [
-            "set", "put", "add", "replace", "cas", "append", "prepend", "incr", "decr", "write",
-            "w", "insert",
-        ];
-        const REMOVES: [&str; 5] = ["delete", "del", "remove", "invalidate", "d"];
-        let is_in = |words: &[&str]| {
-            words
-                .iter()
-                .any(|it| it.as_bytes().eq_ignore_ascii_case(word))
-        };
-        if is_in(GETS.as_slice()) {
-            Ok(Operation::Get)
-        } else if is_in(PUTS.as_slice()) {
-            Ok(Operation::Put)
-        } else if is_in(REMOVES.as_slice()) {
-            Ok(Operation::Remove)
-        } else {
-            Err(self.bad(Role::Op, "get, set, delete or the like", word))
+        match operation_of(word) {
+            Some(operation) => Ok(operation),
+            None => Err(self.bad(Role::Op, "get, set, delete or the like", word)),
         }
     }
 }

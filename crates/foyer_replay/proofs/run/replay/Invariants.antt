@@ -1,7 +1,6 @@
 use Rattle.std.proofs.Common.{◌-◌, ◌≤◌}
 use Rattle.foyer_replay.specs.Counting.{listed}
-use Rattle.foyer_core.specs.Cores.{core_of}
-use Rattle.foyer_replay.specs.Replay.{serves_of}
+use Rattle.foyer_replay.specs.Cores.{core_of, serves_of}
 use Rattle.foyer_replay.proofs.Counting.{Completes}
 use Rattle.foyer_replay.proofs.run.replay.Given as goal
 

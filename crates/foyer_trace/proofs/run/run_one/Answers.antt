@@ -60,6 +60,7 @@ returns g c =
     let start = c.args.runner.now.core in
     let now = c.loop-number.runner.core in
     record {
+      terms = c.loop-number.invariant.terms;
       counted = subst (λ ps. Serves start c.args.warmup (requests_of terms ps) counts.hits counts.misses now)
           c.deref-part-items.ensures.value
           (completes_end c.args.warmup (requests_of terms items) c.loop-number.left (requests_of terms (drop k items))
