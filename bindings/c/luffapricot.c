@@ -166,8 +166,8 @@ luffa_status luffa_insert_entry(luffa_cache *cache, uint64_t now, const void *ke
                                 size_t value_len, const luffa_terms *terms, luffa_entry *entry) {
     luffa_record record;
     struct place at = lock_of(cache, key, key_len);
-    luffa_status status = insert_by(terms)(&at.slot->shard, (luffa_at){now}, at.hash, key, key_len, value, value_len, 0,
-                                           terms, &record);
+    luffa_status status =
+        insert_by(terms)(&at.slot->shard, (luffa_at){now}, at.hash, key, key_len, value, value_len, 0, terms, &record);
     return inserted(at.slot, status, &record, entry);
 }
 

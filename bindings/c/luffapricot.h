@@ -217,10 +217,11 @@ luffa_status luffa_insert_owned(luffa_cache *cache, uint64_t now, const void *ke
                                 luffa_entry *entry);
 
 /*
- * Like luffa_insert_entry, if the key still has the record of `seen`, an entry of this key, also if that is expired; or,
- * if `seen` is NULL, if a lookup finds none. So an increment is a luffa_get_entry and a luffa_replace_if, again until it
- * isn't LUFFA_CHANGED. If the key has another record, nothing is inserted: LUFFA_CHANGED, and `current` is an entry of
- * that one, whose use is counted; LUFFA_MISSING if a lookup finds none. F7 to F10. LUFFA_ONLY_IF_FITS isn't read.
+ * Like luffa_insert_entry, if the key still has the record of `seen`, an entry of this key, also if that is expired;
+ * or, if `seen` is NULL, if a lookup finds none. So an increment is a luffa_get_entry and a luffa_replace_if, again
+ * until it isn't LUFFA_CHANGED. If the key has another record, nothing is inserted: LUFFA_CHANGED, and `current` is an
+ * entry of that one, whose use is counted; LUFFA_MISSING if a lookup finds none. F7 to F10. LUFFA_ONLY_IF_FITS isn't
+ * read.
  */
 luffa_status luffa_replace_if(luffa_cache *cache, uint64_t now, const luffa_entry *seen, const void *key,
                               size_t key_len, const void *value, size_t value_len, const luffa_terms *terms,
@@ -261,8 +262,8 @@ luffa_status luffa_remove(luffa_cache *cache, const void *key, size_t key_len);
 /* Like luffa_remove, and returns an entry of the record, unless `entry` is NULL. */
 luffa_status luffa_remove_entry(luffa_cache *cache, const void *key, size_t key_len, luffa_entry *entry);
 
-/* Removes the entry's record, if its key still has it, also if it is expired. The entry stays held. LUFFA_MISSING if the
- * key has no record or another one, or F7. */
+/* Removes the entry's record, if its key still has it, also if it is expired. The entry stays held. LUFFA_MISSING if
+ * the key has no record or another one, or F7. */
 luffa_status luffa_remove_this(const luffa_entry *entry);
 
 /* LUFFA_OK if a lookup would find the key. It doesn't count as a use. LUFFA_MISSING or F7. */
