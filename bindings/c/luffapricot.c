@@ -31,6 +31,8 @@ const char *luffa_strerror(luffa_status status) {
         [LUFFA_MISSING] = "the cache has no such record",
         [LUFFA_NO_POLICY] = "no policy has this number",
         [LUFFA_BAD_CONFIG] = "luffa_config_default didn't make the configuration, or it is of a newer version",
+        [LUFFA_CHANGED] = "the key has another record",
+        [LUFFA_FULL] = "the record doesn't fit",
     };
     const char *text = status < sizeof TEXTS / sizeof *TEXTS ? TEXTS[status] : NULL;
     return text != NULL ? text : "unknown status";
@@ -143,10 +145,10 @@ luffa_status luffa_insert(luffa_cache *cache, uint64_t now, const void *key, siz
     return status;
 }
 
-/* Ends an insert whose record has a handle. The lock is held when it begins. */
+/* Ends an insert whose record has a handle, or the current one's in its place. The lock is held when it begins. */
 static luffa_status inserted(struct slot *slot, luffa_status status, luffa_record *record, luffa_entry *entry) {
     luffa_entry unwanted = {0};
-    if (status == LUFFA_OK) {
+    if (status == LUFFA_OK || status == LUFFA_CHANGED) {
         wake(slot);
         give(slot, record, entry != NULL ? entry : &unwanted);
     }
@@ -155,13 +157,28 @@ static luffa_status inserted(struct slot *slot, luffa_status status, luffa_recor
     return status;
 }
 
+/* The insert that terms ask for. */
+static luffa_shard_insert_call insert_by(const luffa_terms *terms) {
+    return (terms->flags & LUFFA_ONLY_IF_FITS) != 0 ? luffa_shard_insert_if_fits : luffa_shard_insert_entry;
+}
+
 luffa_status luffa_insert_entry(luffa_cache *cache, uint64_t now, const void *key, size_t key_len, const void *value,
                                 size_t value_len, const luffa_terms *terms, luffa_entry *entry) {
     luffa_record record;
     struct place at = lock_of(cache, key, key_len);
-    luffa_status status = luffa_shard_insert_entry(&at.slot->shard, (luffa_at){now}, at.hash, key, key_len, value,
-                                                   value_len, 0, terms, &record);
+    luffa_status status =
+        insert_by(terms)(&at.slot->shard, (luffa_at){now}, at.hash, key, key_len, value, value_len, 0, terms, &record);
     return inserted(at.slot, status, &record, entry);
+}
+
+luffa_status luffa_replace_if(luffa_cache *cache, uint64_t now, const luffa_entry *seen, const void *key,
+                              size_t key_len, const void *value, size_t value_len, const luffa_terms *terms,
+                              luffa_entry *current) {
+    luffa_record record;
+    struct place at = lock_of(cache, key, key_len);
+    luffa_status status = luffa_shard_replace_if(&at.slot->shard, (luffa_at){now}, at.hash, key, key_len, value,
+                                                 value_len, 0, terms, seen != NULL ? seen->number : SIZE_MAX, &record);
+    return inserted(at.slot, status, &record, current);
 }
 
 /* Tells from now on what leaves from a shard. The lock is held. */
@@ -182,8 +199,8 @@ luffa_status luffa_insert_owned(luffa_cache *cache, uint64_t now, const void *ke
     owned->departures = (terms->flags & LUFFA_PHANTOM) != 0 ? 2 : 1;
     struct place at = lock_of(cache, key, key_len);
     listen(at.slot);
-    luffa_status status = luffa_shard_insert_entry(&at.slot->shard, (luffa_at){now}, at.hash, key, key_len, NULL, 0,
-                                                   (uintptr_t)owned, terms, &record);
+    luffa_status status = insert_by(terms)(&at.slot->shard, (luffa_at){now}, at.hash, key, key_len, NULL, 0,
+                                           (uintptr_t)owned, terms, &record);
     if (status == LUFFA_OK) {
         start_owned(at.slot, owned);
         count_answers(at.slot, owned);
@@ -272,6 +289,14 @@ luffa_status luffa_remove_entry(luffa_cache *cache, const void *key, size_t key_
 
 luffa_status luffa_remove(luffa_cache *cache, const void *key, size_t key_len) {
     return luffa_remove_entry(cache, key, key_len, NULL);
+}
+
+luffa_status luffa_remove_this(const luffa_entry *entry) {
+    struct slot *slot = entry->shard;
+    lock(slot);
+    luffa_status status = luffa_shard_remove_this(&slot->shard, entry->number);
+    unlock_and_tell(slot);
+    return status;
 }
 
 luffa_status luffa_contains(luffa_cache *cache, uint64_t now, const void *key, size_t key_len) {

@@ -66,7 +66,9 @@ enum {
     LUFFA_WRONG_POLICY = 17,    /* F17: the configuration is of another policy */
     LUFFA_MISSING = 101,        /* the cache has no such record */
     LUFFA_NO_POLICY = 105,      /* no policy has this number */
-    LUFFA_BAD_CONFIG = 109      /* luffa_config_default didn't make the configuration, or it is of a newer version */
+    LUFFA_BAD_CONFIG = 109,     /* luffa_config_default didn't make the configuration, or it is of a newer version */
+    LUFFA_CHANGED = 110,        /* luffa_replace_if: the key has another record than was seen */
+    LUFFA_FULL = 111            /* LUFFA_ONLY_IF_FITS: the record doesn't fit beside what LRU pins */
 };
 
 /* The policies, which decide what is evicted. */
@@ -147,8 +149,10 @@ typedef struct luffa_terms {
 enum {
     LUFFA_EXPIRES = 1,
     LUFFA_LOW_PRIORITY = 2, /* LRU: the record is among the first to be evicted */
-    LUFFA_PHANTOM = 4 /* no lookup finds the record: it is told as LUFFA_REMOVE when it is inserted, and as LUFFA_EVICT
-                         when it leaves with its last entry */
+    LUFFA_PHANTOM = 4, /* no lookup finds the record: it is told as LUFFA_REMOVE when it is inserted, and as LUFFA_EVICT
+                          when it leaves with its last entry */
+    LUFFA_ONLY_IF_FITS = 8 /* luffa_insert_entry, luffa_insert_owned: LUFFA_FULL, and nothing is inserted or evicted, if
+                              the weight is more than the shard's capacity less what LRU pins of other keys there */
 };
 
 /* What the callback of luffa_get_or_insert makes. */
@@ -214,6 +218,17 @@ luffa_status luffa_insert_owned(luffa_cache *cache, uint64_t now, const void *ke
                                 luffa_entry *entry);
 
 /*
+ * Like luffa_insert_entry, if the key still has the record of `seen`, an entry of this key, also if that is expired;
+ * or, if `seen` is NULL, if a lookup finds none. So an increment is a luffa_get_entry and a luffa_replace_if, again
+ * until it isn't LUFFA_CHANGED. If the key has another record, nothing is inserted: LUFFA_CHANGED, and `current` is an
+ * entry of that one, whose use is counted; LUFFA_MISSING if a lookup finds none. F7 to F10. LUFFA_ONLY_IF_FITS isn't
+ * read.
+ */
+luffa_status luffa_replace_if(luffa_cache *cache, uint64_t now, const luffa_entry *seen, const void *key,
+                              size_t key_len, const void *value, size_t value_len, const luffa_terms *terms,
+                              luffa_entry *current);
+
+/*
  * Copies a value, or the part of it that fits the buffer, and writes its whole length. LUFFA_MISSING, F7 or F9.
  * If *value_len is more than buffer_len, call again with a larger buffer, or use luffa_get_entry.
  */
@@ -247,6 +262,10 @@ luffa_status luffa_remove(luffa_cache *cache, const void *key, size_t key_len);
 
 /* Like luffa_remove, and returns an entry of the record, unless `entry` is NULL. */
 luffa_status luffa_remove_entry(luffa_cache *cache, const void *key, size_t key_len, luffa_entry *entry);
+
+/* Removes the entry's record, if its key still has it, also if it is expired. The entry stays held. LUFFA_MISSING if
+ * the key has no record or another one, or F7. */
+luffa_status luffa_remove_this(const luffa_entry *entry);
 
 /* LUFFA_OK if a lookup would find the key. It doesn't count as a use. LUFFA_MISSING or F7. */
 luffa_status luffa_contains(luffa_cache *cache, uint64_t now, const void *key, size_t key_len);

@@ -55,6 +55,14 @@ uint32_t luffa_shard_insert(luffa_shard *, luffa_at now, luffa_hashed hash, cons
 uint32_t luffa_shard_insert_entry(luffa_shard *, luffa_at now, luffa_hashed hash, const uint8_t *key, size_t key_len,
                                   const uint8_t *value, size_t value_len, uint64_t owner, const luffa_terms *,
                                   luffa_record *);
+uint32_t luffa_shard_insert_if_fits(luffa_shard *, luffa_at now, luffa_hashed hash, const uint8_t *key, size_t key_len,
+                                    const uint8_t *value, size_t value_len, uint64_t owner, const luffa_terms *,
+                                    luffa_record *);
+typedef uint32_t (*luffa_shard_insert_call)(luffa_shard *, luffa_at, luffa_hashed, const uint8_t *, size_t,
+                                            const uint8_t *, size_t, uint64_t, const luffa_terms *, luffa_record *);
+uint32_t luffa_shard_replace_if(luffa_shard *, luffa_at now, luffa_hashed hash, const uint8_t *key, size_t key_len,
+                                const uint8_t *value, size_t value_len, uint64_t owner, const luffa_terms *,
+                                size_t number, luffa_record *);
 uint32_t luffa_shard_get(luffa_shard *, luffa_at now, luffa_hashed hash, const uint8_t *key, size_t key_len,
                          uint8_t *out, size_t out_len, size_t *len);
 uint32_t luffa_shard_peek(luffa_shard *, luffa_at now, luffa_hashed hash, const uint8_t *key, size_t key_len,
@@ -62,6 +70,7 @@ uint32_t luffa_shard_peek(luffa_shard *, luffa_at now, luffa_hashed hash, const 
 uint32_t luffa_shard_get_entry(luffa_shard *, luffa_at now, luffa_hashed hash, const uint8_t *key, size_t key_len,
                                luffa_record *);
 uint32_t luffa_shard_remove(luffa_shard *, luffa_hashed hash, const uint8_t *key, size_t key_len, luffa_record *);
+uint32_t luffa_shard_remove_this(luffa_shard *, size_t number);
 uint32_t luffa_shard_contains(luffa_shard *, luffa_at now, luffa_hashed hash, const uint8_t *key, size_t key_len);
 uint32_t luffa_shard_touch(luffa_shard *, luffa_at now, luffa_hashed hash, const uint8_t *key, size_t key_len);
 uint32_t luffa_shard_release(luffa_shard *, size_t number);

@@ -44,7 +44,7 @@ OUTPUT = [
     (r"fn drop \( & mut self \)", "fn drop ( self )"),
     (r"let (\w+) = (\* \1|\1 \. take \( \)|unsafe \{ : : std : : mem : : ManuallyDrop : : take \( \1 \) \}) ;", ""),
     (r": : std : : mem : : ManuallyDrop < (\w+ < [^<>]*(?:< [^<>]*> ?[^<>]*)?>) >", r"\1"),
-    (r"(\w+ : )?: : std : : mem : : ManuallyDrop : : new \( ((?:[^()]|\([^()]*\))*) \)", lambda it: it[2] if it[1] == it[2] + " : " else (it[1] or "") + it[2]),
+    (r"(\w+ : )?: : std : : mem : : ManuallyDrop : : new \( ((?:[^()]|\((?:[^()]|\([^()]*\))*\))*) \)", lambda it: it[2] if it[1] == it[2] + " : " else (it[1] or "") + it[2]),
     (r": Sized \+", ":"),
     (r" : Sized\b", ""),
     (r"let rt : HostRuntime = HostRuntime ;", ""),

@@ -143,6 +143,32 @@ static void owned(luffa_cache *cache) {
         luffa_release(&entries[i]);
 }
 
+/* Replaces records if they are still there, and removes them. */
+static void conditional(luffa_cache *cache) {
+    const luffa_terms terms = {.weight = 1, .flags = LUFFA_ONLY_IF_FITS};
+    for (uint64_t key = 0; key < KEYS; key += 3) {
+        luffa_entry seen = {0}, next = {0};
+        luffa_status status = luffa_replace_if(cache, 0, NULL, spelled(key), key_len, &key, 8, &terms, &seen);
+        CHECK(is_fine(status) || status == LUFFA_CHANGED);
+        are_in[key] += status == LUFFA_OK;
+        if (seen.shard != NULL) {
+            status = luffa_replace_if(cache, 0, &seen, spelled(key), key_len, &key, 8, &terms, &next);
+            CHECK(is_fine(status));
+            are_in[key] += status == LUFFA_OK;
+        }
+        if (next.shard != NULL) {
+            status = luffa_remove_this(&seen);
+            CHECK(status == LUFFA_MISSING || status == LUFFA_NO_MEMORY);
+            CHECK(is_fine(luffa_remove_this(&next)));
+        }
+        luffa_release(&seen);
+        luffa_release(&next);
+        status = luffa_insert_entry(cache, 0, spelled(key), key_len, &key, 8, &terms, NULL);
+        CHECK(is_fine(status));
+        are_in[key] += status == LUFFA_OK;
+    }
+}
+
 /* Inserts, lookups and bulk calls over KEYS keys. */
 static void calls(luffa_cache *cache) {
     current = cache;
@@ -163,6 +189,7 @@ static void calls(luffa_cache *cache) {
         CHECK(status != LUFFA_OK || (len == 8 && found == asked));
     }
     walks(cache);
+    conditional(cache);
     for (uint64_t key = 0; key < KEYS; key += 7) {
         int is_made = 0;
         luffa_status status = luffa_get_or_insert(cache, KEYS, spelled(key), key_len, make, &is_made, &entry);

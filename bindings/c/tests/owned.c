@@ -111,7 +111,7 @@ static void many(uint32_t policy, size_t shards, bool is_heard) {
     luffa_config config = luffa_config_default(policy);
     luffa_cache *made;
     uint64_t removed;
-    config.capacity = 3 * KEYS;
+    config.capacity = 100 * KEYS; /* no shard is full, whatever the seed of the hash */
     config.shards = shards;
     config.listener = is_heard ? hear : NULL;
     config.listener_context = &heard;

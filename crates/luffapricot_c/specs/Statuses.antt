@@ -14,6 +14,12 @@ found_of (Ok true) = 0
 found_of (Ok false) = 101
 found_of (Err reason) = number_of reason
 
+-- 0 if a record fitted, 111 if it didn't, or the number of the refusal
+abbrev pub fits_of : Result Bool Reason → ℕ
+fits_of (Ok true) = 0
+fits_of (Ok false) = 111
+fits_of (Err reason) = number_of reason
+
 -- so for a length
 abbrev pub copied_of : Result (Option ℕ) Reason → ℕ
 copied_of (Ok (Some _)) = 0

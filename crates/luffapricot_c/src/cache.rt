@@ -21,6 +21,7 @@ use slab::Slab;
 use std::alloc::Global;
 
 mod bulk;
+mod conditional;
 mod fetches;
 mod holds;
 mod reads;

@@ -23,6 +23,7 @@ use std::ptr::null_mut;
 mod address;
 mod bulk;
 mod cache;
+mod conditional;
 mod fetches;
 mod hold;
 mod key;

@@ -3,7 +3,7 @@
 ghost use Rattle.std.specs.Prelude.{◌≡◌};
 ghost use Rattle.foyer_policy.specs.Errors.{number_of};
 ghost use Rattle.luffapricot_c.specs.Releases.{event_of};
-ghost use Rattle.luffapricot_c.specs.Statuses.{copied_of, done_of, found_of, len_of, open_status, told_of};
+ghost use Rattle.luffapricot_c.specs.Statuses.{copied_of, done_of, fits_of, found_of, len_of, open_status, told_of};
 
 use foyer_policy::{Error, Event, Result};
 
@@ -26,6 +26,11 @@ pub(crate) const IS_OPEN: u32 = 106;
 pub(crate) const NOT_OPEN: u32 = 107;
 /// What left before has to be taken first.
 pub(crate) const UNTOLD: u32 = 108;
+
+/// The key has another record than was seen.
+pub(crate) const CHANGED: u32 = 110;
+/// The record doesn't fit beside what is pinned.
+pub(crate) const FULL: u32 = 111;
 
 /// The number of a refusal.
 pub(crate) fn refusal(error: Error) -> u32
@@ -63,6 +68,17 @@ pub(crate) fn found(answer: Result<bool>) -> u32
     match answer {
         Ok(true) => OK,
         Ok(false) => MISSING,
+        Err(error) => refusal(error),
+    }
+}
+
+/// The number of a result that says whether a record fitted.
+pub(crate) fn fits(answer: Result<bool>) -> u32
+    ensures { result ≡ fits_of answer }
+{
+    match answer {
+        Ok(true) => OK,
+        Ok(false) => FULL,
         Err(error) => refusal(error),
     }
 }

@@ -1,0 +1,98 @@
+-- What the calls make of a cache of bytes that depend on the record that a key has.
+use Rattle.std.specs.Prelude.{◌≡◌, ◌↔◌, ◌⊎◌, ℕ, Bool, true, false, List, ◌∷◌, [], Option, None, Some, Result, Ok, Err, IsSomeAnd, IsTrue, if◌then◌else◌, option_map}
+use Rattle.foyer_policy.specs.declared.error.Reason.{Reason}
+use Rattle.foyer_policy.specs.declared.types.Event.TheVariants.{Remove}
+use Rattle.foyer_core.specs.Bulk.{TakesRecordOut}
+use Rattle.foyer_core.specs.Conditional.{Fits, IsCurrentIn}
+use Rattle.foyer_core.specs.Core.{AtShard, shard_at}
+use Rattle.foyer_core.specs.Cores.{core_of, hashes_of, meaning_of_core}
+use Rattle.foyer_core.specs.Pieces.{is_in}
+use Rattle.foyer_core.specs.Values.{Answered, Gone, Held as EntryOf}
+use Rattle.luffapricot_c.specs.declared.cache.ByteCache.{ByteCache}
+use Rattle.luffapricot_c.specs.declared.cache.LuffaTerms.{LuffaTerms}
+use Rattle.luffapricot_c.specs.declared.hold.Held.{Held}
+use Rattle.luffapricot_c.specs.declared.hold.Held.TheVariants.{Entry, Gone as GoneHeld, Left, Listed, Refused, Waiting}
+use Rattle.luffapricot_c.specs.declared.hold.Hold.{Hold}
+use Rattle.luffapricot_c.specs.declared.key.Key.{Key}
+use Rattle.luffapricot_c.specs.declared.record.LuffaRecord.{LuffaRecord}
+use Rattle.luffapricot_c.specs.declared.value.Value.{Value}
+use Rattle.luffapricot_c.specs.Bytes.{IsKey, properties_of}
+use Rattle.luffapricot_c.specs.Calls.{GetsEntry, InsertsEntry, IsToldOf, Lacks}
+use Rattle.luffapricot_c.specs.Frames.{Frames}
+
+-- the entry that a number names
+abbrev pub entry_in : Held → Option (EntryOf Key Value Answered)
+entry_in (Entry entry) = Some entry
+entry_in Waiting = None
+entry_in (Refused _) = None
+entry_in (GoneHeld _) = None
+entry_in (Left _) = None
+entry_in (Listed _) = None
+
+abbrev pub entry_at : Option Hold → Option (EntryOf Key Value Answered)
+entry_at None = None
+entry_at (Some hold) = entry_in hold.held
+
+-- the id of its record
+abbrev pub seen_at : Option Hold → Option ℕ
+seen_at named = option_map (λ e. e.id) (entry_at named)
+
+-- whether a key has what was seen: the record of this id, or none that a lookup finds
+pub record StillHas (now hash : ℕ) (key : List ℕ) (seen : Option ℕ) (answer : Bool) (c : ByteCache) : Type 0 where
+  pub own : Key
+  pub own_is : IsKey hash key own
+  pub is : IsCurrentIn (meaning_of_core c.core) now (core_of c.core) (hashes_of c.core own, own) seen answer
+
+-- A record is inserted and held if its key has what was seen, with status 0; else the record that a lookup finds is held,
+-- with status 110, or 101 if there is none.
+abbrev pub ReplacesIf : ℕ → ℕ → List ℕ → List ℕ → ℕ → LuffaTerms → Option ℕ → Result ℕ Reason → LuffaRecord → ByteCache →
+    ByteCache → Type 0
+ReplacesIf now hash key bytes owner terms seen (Ok status) shown old new =
+    (StillHas now hash key seen true old × (status ≡ 0)
+    × InsertsEntry {A = Unit {0}} now hash key bytes owner terms.weight (properties_of terms) (Ok tt) shown old new)
+    ⊎ (StillHas now hash key seen false old × ((found : Bool) × (status ≡ (if found then 110 else 101))
+    × GetsEntry now hash key (Ok found) shown old new))
+ReplacesIf now hash key bytes owner terms seen (Err reason) shown old new = Lacks reason old new
+    ⊎ ((StillHas now hash key seen true old
+    × InsertsEntry {A = Unit {0}} now hash key bytes owner terms.weight (properties_of terms) (Err reason) shown old new)
+    ⊎ (StillHas now hash key seen false old × GetsEntry now hash key (Err reason) shown old new))
+
+-- whether a record of this key and weight fits beside what is pinned of other keys
+pub record FitsIn (hash : ℕ) (key : List ℕ) (weight : ℕ) (answer : Bool) (c : ByteCache) : Type 0 where
+  pub own : Key
+  pub own_is : IsKey hash key own
+  pub fits : IsSomeAnd (shard_at (core_of c.core) (hashes_of c.core own))
+      (λ s. IsTrue answer ↔ Fits (meaning_of_core c.core) s (hashes_of c.core own, own) weight)
+
+-- a record is inserted and held if it fits, and else nothing changes
+abbrev pub InsertsIfFits : ℕ → ℕ → List ℕ → List ℕ → ℕ → LuffaTerms → Result Bool Reason → LuffaRecord → ByteCache →
+    ByteCache → Type 0
+InsertsIfFits now hash key bytes owner terms (Ok true) shown old new = FitsIn hash key terms.weight true old
+    × InsertsEntry {A = Unit {0}} now hash key bytes owner terms.weight (properties_of terms) (Ok tt) shown old new
+InsertsIfFits now hash key bytes owner terms (Ok false) shown old new = FitsIn hash key terms.weight false old
+    × (new ≡ old)
+InsertsIfFits now hash key bytes owner terms (Err reason) shown old new = Lacks reason old new
+    ⊎ (FitsIn hash key terms.weight true old
+    × InsertsEntry {A = Unit {0}} now hash key bytes owner terms.weight (properties_of terms) (Err reason) shown old new)
+
+-- whether an entry's record is in the index of its shard
+abbrev pub StillIn : Bool → EntryOf Key Value Answered → ByteCache → Type 0
+StillIn found entry c = IsSomeAnd (shard_at (core_of c.core) entry.kept.hash) (λ s. found ≡ is_in (s.records entry.id))
+
+-- an entry's record is removed
+pub record RemovesNamed (entry : EntryOf Key Value Answered) (old new : ByteCache) : Type 0 where
+  pub gone : Gone Key Value Answered
+  pub removes : AtShard (λ s t. TakesRecordOut (meaning_of_core old.core) s entry.id gone t) entry.kept.hash
+      (core_of old.core) (core_of new.core)
+  pub told : IsToldOf ((Remove, gone) ∷ []) old new
+  pub rest : Frames (record old { left = new.left }) new
+
+-- an entry's record is removed if it is in the index, and else nothing changes
+abbrev pub RemovesThis : Option (EntryOf Key Value Answered) → Result Bool Reason → ByteCache → ByteCache → Type 0
+RemovesThis None (Ok true) old new = ⊥
+RemovesThis (Some entry) (Ok true) old new = StillIn true entry old × RemovesNamed entry old new
+RemovesThis None (Ok false) old new = (core_of new.core ≡ core_of old.core) × Frames old new
+RemovesThis (Some entry) (Ok false) old new = StillIn false entry old × (core_of new.core ≡ core_of old.core)
+    × Frames old new
+RemovesThis None (Err reason) old new = Lacks reason old new
+RemovesThis (Some entry) (Err reason) old new = Lacks reason old new
