@@ -78,7 +78,10 @@ impl<K: luffapricot::Key> Target<K> for luffapricot::Cache<K, K, foyer_common::h
 
     #[inline(always)]
     fn by_read(&self, key: &K) -> bool {
-        if self.read(key, |value| drop(std::hint::black_box(value))).is_some() {
+        let seen = self.read(key, |value| {
+            std::hint::black_box(value);
+        });
+        if seen.is_some() {
             return true;
         }
         self.put(key.clone(), key.clone());
