@@ -1,10 +1,10 @@
 //! Drives this crate and upstream's in turn, in one process and over one trace: for each key a look-up, and on a miss an
-//! insert of key and value.
+//! insert of key and value. Keys are numbers that are their own hashes, or strings of 16 bytes with values of 100 and SipHash.
 
 mod trace;
 
 use std::fmt::Debug;
-use std::hash::Hash;
+use std::hash::{BuildHasher, BuildHasherDefault, DefaultHasher, Hash};
 use std::sync::Barrier;
 use std::time::Instant;
 use trace::{Skew, Trace};
@@ -60,19 +60,47 @@ fn args() -> Option<Args> {
     })
 }
 
+/// A key, with what is kept under it, and what both caches hash it by.
+trait Key: Hash + Eq + Clone + Send + Sync + Debug + 'static {
+    type Value: Clone + Send + Sync + Debug + 'static;
+    type Build: BuildHasher + Default + Send + Sync + Debug + 'static;
+
+    fn value(&self) -> Self::Value;
+}
+
+impl Key for u64 {
+    type Value = u64;
+    type Build = foyer_common::hasher::ModHasher;
+
+    #[inline(always)]
+    fn value(&self) -> u64 {
+        *self
+    }
+}
+
+impl Key for String {
+    type Value = Vec<u8>;
+    type Build = BuildHasherDefault<DefaultHasher>;
+
+    #[inline(always)]
+    fn value(&self) -> Vec<u8> {
+        vec![self.as_bytes()[15]; 100]
+    }
+}
+
 /// A cache as the benchmark calls it: whether a key is found, and else an insert of it.
 trait Target<K>: Sync {
     fn by_entry(&self, key: &K) -> bool;
     fn by_read(&self, key: &K) -> bool;
 }
 
-impl<K: luffapricot::Key> Target<K> for luffapricot::Cache<K, K, foyer_common::hasher::ModHasher> {
+impl<K: Key> Target<K> for luffapricot::Cache<K, K::Value, K::Build> {
     #[inline(always)]
     fn by_entry(&self, key: &K) -> bool {
         if self.get(key).is_some() {
             return true;
         }
-        self.insert(key.clone(), key.clone());
+        self.insert(key.clone(), key.value());
         false
     }
 
@@ -84,18 +112,18 @@ impl<K: luffapricot::Key> Target<K> for luffapricot::Cache<K, K, foyer_common::h
         if seen.is_some() {
             return true;
         }
-        self.put(key.clone(), key.clone());
+        self.put(key.clone(), key.value());
         false
     }
 }
 
-impl<K: Hash + Eq + Clone + Send + Sync + Debug + 'static> Target<K> for foyer_memory::Cache<K, K, foyer_common::hasher::ModHasher> {
+impl<K: Key> Target<K> for foyer_memory::Cache<K, K::Value, K::Build> {
     #[inline(always)]
     fn by_entry(&self, key: &K) -> bool {
         if self.get(key).is_some() {
             return true;
         }
-        self.insert(key.clone(), key.clone());
+        self.insert(key.clone(), key.value());
         false
     }
 
@@ -147,24 +175,21 @@ fn upstream_config(policy: &str) -> Option<foyer_memory::EvictionConfig> {
     })
 }
 
-fn bench<K>(args: &Args, traces: &[Vec<K>]) -> Option<()>
-where
-    K: Hash + Eq + Clone + Send + Sync + Debug + 'static,
-{
+fn bench<K: Key>(args: &Args, traces: &[Vec<K>]) -> Option<()> {
     let upstream = upstream_config(&args.policy)?;
     let ours: luffapricot::EvictionConfig = args.policy.parse().ok()?;
     let mut ratios = Vec::new();
     for rep in 0..args.reps {
         let mut results = [None, None];
         for which in [rep % 2, 1 - rep % 2] {
-            let hasher = foyer_common::hasher::ModHasher::default();
+            let hasher = K::Build::default();
             if which == 0 && args.only != "upstream" {
                 let builder = luffapricot::CacheBuilder::new(args.capacity).with_shards(args.shards);
-                let cache: luffapricot::Cache<K, K, _> = builder.with_eviction_config(ours.clone()).with_hash_builder(hasher).build();
+                let cache: luffapricot::Cache<K, K::Value, _> = builder.with_eviction_config(ours.clone()).with_hash_builder(hasher).build();
                 results[0] = Some(drive(args, &cache, traces));
             } else if which == 1 && args.only != "ours" {
                 let builder = foyer_memory::CacheBuilder::new(args.capacity).with_shards(args.shards);
-                let cache: foyer_memory::Cache<K, K, _> =
+                let cache: foyer_memory::Cache<K, K::Value, _> =
                     builder.with_eviction_config(upstream.clone()).with_hash_builder(hasher).build();
                 results[1] = Some(drive(args, &cache, traces));
             }

@@ -1,6 +1,6 @@
 //! The allocator that is passed about, and the errors of allocation.
 
-use ::std::alloc::{Layout, alloc, dealloc};
+use ::std::alloc::{Layout, LayoutError, alloc, dealloc};
 use ::std::fmt;
 
 pub use super::rt::AllocGlobal;
@@ -67,11 +67,18 @@ pub unsafe trait Allocator {
     unsafe fn deallocate(&self, block: *mut u8, size: usize, align: usize);
 }
 
+// A large block begins at a cache line, so that each of its parts of 64 bytes is one line.
+#[inline(always)]
+fn layout_of(size: usize, align: usize) -> Result<Layout, LayoutError> {
+    let layout = Layout::from_size_align(size, align)?;
+    if size < 1 << 16 { Ok(layout) } else { layout.align_to(64) }
+}
+
 // SAFETY: Rust's global allocator keeps these promises.
 unsafe impl Allocator for Global {
     #[inline]
     fn allocate(&self, size: usize, align: usize) -> Result<*mut u8, AllocError> {
-        let layout = Layout::from_size_align(size, align).map_err(|_| AllocError)?;
+        let layout = layout_of(size, align).map_err(|_| AllocError)?;
         if size == 0 {
             return Ok(::std::ptr::without_provenance_mut(align));
         }
@@ -82,9 +89,12 @@ unsafe impl Allocator for Global {
 
     #[inline]
     unsafe fn deallocate(&self, block: *mut u8, size: usize, align: usize) {
-        if size != 0 {
+        if size == 0 {
+            return;
+        }
+        if let Ok(layout) = layout_of(size, align) {
             // SAFETY: by this function's contract, `allocate` was called with the same layout.
-            unsafe { dealloc(block, Layout::from_size_align_unchecked(size, align)) }
+            unsafe { dealloc(block, layout) }
         }
     }
 }

@@ -166,12 +166,30 @@ impl<T, I: SliceIndex<[T]>> IndexMut<I> for Vec<T> {
     }
 }
 
+/// The values of a vector. Those of an empty one are cheap.
+pub struct IntoIter<T>(Option<::std::vec::IntoIter<T>>);
+
+impl<T> Iterator for IntoIter<T> {
+    type Item = T;
+
+    #[inline]
+    fn next(&mut self) -> Option<T> {
+        self.0.as_mut()?.next()
+    }
+
+    #[inline]
+    fn size_hint(&self) -> (usize, Option<usize>) {
+        self.0.as_ref().map_or((0, Some(0)), Iterator::size_hint)
+    }
+}
+
 impl<T> IntoIterator for Vec<T> {
     type Item = T;
-    type IntoIter = ::std::vec::IntoIter<T>;
+    type IntoIter = IntoIter<T>;
 
-    fn into_iter(self) -> Self::IntoIter {
-        self.0.into_iter()
+    #[inline]
+    fn into_iter(self) -> IntoIter<T> {
+        IntoIter((!self.0.is_empty()).then(|| self.0.into_iter()))
     }
 }
 

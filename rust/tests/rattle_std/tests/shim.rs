@@ -55,6 +55,37 @@ fn a_vector_keeps_what_is_pushed() {
 }
 
 #[test]
+fn a_vector_gives_its_values_up() {
+    let drops = Cell::new(0);
+    let mut all = Vec::with_capacity(Global, 8).unwrap();
+    for _ in 0..3 {
+        all.push_reserved(Counted(&drops));
+    }
+    let mut rest = all.into_iter();
+    assert_eq!((rest.size_hint(), drops.get()), ((3, Some(3)), 0));
+    drop(rest.next());
+    assert_eq!((rest.size_hint(), drops.get()), ((2, Some(2)), 1));
+    drop(rest);
+    assert_eq!(drops.get(), 3);
+    let mut none = Vec::<u64>::with_capacity(Global, 8).unwrap().into_iter();
+    assert_eq!((none.size_hint(), none.next(), none.next()), ((0, Some(0)), None, None));
+}
+
+#[test]
+fn a_large_block_begins_at_a_cache_line() {
+    for size in [1, 65_535, 65_536, 1_000_000] {
+        let block = Global.allocate(size, 8).unwrap();
+        assert_eq!((block.addr() % 8, size < 65_536 || block.addr() % 64 == 0), (0, true));
+        // SAFETY: the block has this size and alignment, and isn't used again.
+        unsafe {
+            block.write_bytes(1, size);
+            Global.deallocate(block, size, 8);
+        }
+    }
+    assert_eq!(Global.allocate(65_536, 3), Err(AllocError));
+}
+
+#[test]
 fn reserved_room_is_there() {
     let mut all = Vec::with_capacity(Global, 10).unwrap();
     all.reserve(100).unwrap();
