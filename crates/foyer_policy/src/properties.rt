@@ -23,6 +23,9 @@ pub trait Properties: Default + Drop + 'static {
     // The properties with another phantom flag.
     ghost with_phantom_of: { Self → Bool → Self };
 
+    // The properties with another expiry, or as they are if the type keeps none.
+    ghost with_expiry_of: { Self → Option ℕ → Self };
+
     /// Returns these properties with this value of `phantom`.
     fn with_phantom(self, phantom: bool) -> Self
         ensures { result ≡ with_phantom_of self phantom };
@@ -57,11 +60,7 @@ pub trait Properties: Default + Drop + 'static {
 
     /// Returns these properties with the time at which the record expires, or `None` for never, if the type keeps it.
     fn with_expiry(self, expires: Option<u64>) -> Self
-        ensures { phantom_of result ≡ phantom_of self }
-    {
-        let _ = expires;
-        self
-    }
+        ensures { result ≡ with_expiry_of self expires };
 
     /// Returns the time at which the record expires, or `None` for never.
     ///
@@ -80,4 +79,7 @@ pub trait Properties: Default + Drop + 'static {
     ghost age_stays: { (p : Self) (b : Bool) → age_of (with_phantom_of p b) ≡ age_of p };
 
     ghost expiry_stays: { (p : Self) (b : Bool) → expiry_of (with_phantom_of p b) ≡ expiry_of p };
+
+    // A given expiry leaves the phantom flag as it is.
+    ghost phantom_kept: { (p : Self) (e : Option ℕ) → phantom_of (with_expiry_of p e) ≡ phantom_of p };
 }
