@@ -3,7 +3,10 @@
 ghost use Rattle.std.specs.Prelude.{◌≡◌, IfOk, IfSome, false, true};
 ghost use Rattle.std.specs.Arc.{arc_value};
 ghost use Rattle.foyer_policy.specs.Moments.{is_expired};
+ghost use Rattle.foyer_core.specs.Rules.{Judges};
+ghost use Rattle.foyer_core.specs.State.{coming_in};
 ghost use Rattle.foyer_raw.specs.Conditional.{IfFound, IfInserted};
+ghost use Rattle.foyer_raw.specs.Lives.{living};
 
 use super::Cache;
 use crate::entry::CacheEntry;
@@ -46,7 +49,10 @@ where
         requires clones { (k c : K) → K.is_clone k c → K.eq c k ≡ true }
         ensures entry { IfInserted result (λ e. (e.entry.kept.key ≡ key) × (e.entry.kept.value ≡ value)) }
         ensures hash { IfInserted result (λ e. e.entry.kept.hash ≡ S.hash_of (arc_value (arc_value (arc_value self.now.cache.shares.shared).shared).hash_builder) (K.hash_input key)) }
-        ensures weight { IfInserted result (λ e. W.weighs (arc_value (arc_value self.now.cache.shares.shared).shared).rules.weighter key value e.entry.kept.weight) }
+        ensures judged { let shared = arc_value (arc_value (arc_value self.now.cache.shares.shared).shared) in
+            IfInserted result (λ e. Judges (W.weighs shared.rules.weighter key value) (A.admits shared.rules.filter key value)
+            (λ admitted. coming_in P.location_of P.with_phantom_of admitted (living P.expiry_of P.with_expiry_of now self.now.cache.time_to_live properties))
+            e.entry.kept.weight e.entry.kept.properties) }
         ensures found { IfFound result (λ e. (K.eq key e.entry.kept.key ≡ true) × (is_expired now (P.expiry_of e.entry.kept.properties) ≡ false)) }
         ensures kind { IfInserted result (λ e. e.kind ≡ self.now.kind) × IfFound result (λ e. e.kind ≡ self.now.kind) }
     {
@@ -79,7 +85,10 @@ where
         requires clones { (k c : K) → K.is_clone k c → K.eq c k ≡ true }
         ensures entry { IfOk result (λ made. IfSome made (λ e. (e.entry.kept.key ≡ key) × (e.entry.kept.value ≡ value))) }
         ensures hash { IfOk result (λ made. IfSome made (λ e. e.entry.kept.hash ≡ S.hash_of (arc_value (arc_value (arc_value self.now.cache.shares.shared).shared).hash_builder) (K.hash_input key))) }
-        ensures weight { IfOk result (λ made. IfSome made (λ e. W.weighs (arc_value (arc_value self.now.cache.shares.shared).shared).rules.weighter key value e.entry.kept.weight)) }
+        ensures judged { let shared = arc_value (arc_value (arc_value self.now.cache.shares.shared).shared) in
+            IfOk result (λ made. IfSome made (λ e. Judges (W.weighs shared.rules.weighter key value) (A.admits shared.rules.filter key value)
+            (λ admitted. coming_in P.location_of P.with_phantom_of admitted (living P.expiry_of P.with_expiry_of now self.now.cache.time_to_live properties))
+            e.entry.kept.weight e.entry.kept.properties)) }
         ensures kind { IfOk result (λ made. IfSome made (λ e. e.kind ≡ self.now.kind)) }
     {
         let kind = self.kind;

@@ -3,7 +3,10 @@
 ghost use Rattle.std.specs.Prelude.{◌≡◌, IfOk, IfSome, false, true};
 ghost use Rattle.std.specs.Arc.{arc_value};
 ghost use Rattle.foyer_policy.specs.Moments.{is_expired};
+ghost use Rattle.foyer_core.specs.Rules.{Judges};
+ghost use Rattle.foyer_core.specs.State.{coming_in};
 ghost use Rattle.foyer_raw.specs.Conditional.{IfFound, IfInserted};
+ghost use Rattle.foyer_raw.specs.Lives.{living};
 
 use super::RawCache;
 use crate::counted::{At, RawInserted};
@@ -55,7 +58,10 @@ where
         requires clones { (k c : K) → K.is_clone k c → K.eq c k ≡ true }
         ensures given { IfInserted result (λ e. (e.kept.key ≡ key) × (e.kept.value ≡ value)) }
         ensures hash { IfInserted result (λ e. e.kept.hash ≡ S.hash_of (arc_value (arc_value (arc_value self.now.shares.shared).shared).hash_builder) (K.hash_input key)) }
-        ensures weight { IfInserted result (λ e. W.weighs (arc_value (arc_value self.now.shares.shared).shared).rules.weighter key value e.kept.weight) }
+        ensures judged { let shared = arc_value (arc_value (arc_value self.now.shares.shared).shared) in
+            IfInserted result (λ e. Judges (W.weighs shared.rules.weighter key value) (A.admits shared.rules.filter key value)
+            (λ admitted. coming_in P.location_of P.with_phantom_of admitted (living P.expiry_of P.with_expiry_of now self.now.time_to_live properties))
+            e.kept.weight e.kept.properties) }
         ensures found { IfFound result (λ e. (K.eq key e.kept.key ≡ true) × (is_expired now (P.expiry_of e.kept.properties) ≡ false)) }
     {
         let properties = expiring(properties, At::new(now), self.time_to_live);
@@ -97,7 +103,10 @@ where
         requires clones { (k c : K) → K.is_clone k c → K.eq c k ≡ true }
         ensures given { IfOk result (λ made. IfSome made (λ e. (e.kept.key ≡ key) × (e.kept.value ≡ value))) }
         ensures hash { IfOk result (λ made. IfSome made (λ e. e.kept.hash ≡ S.hash_of (arc_value (arc_value (arc_value self.now.shares.shared).shared).hash_builder) (K.hash_input key))) }
-        ensures weight { IfOk result (λ made. IfSome made (λ e. W.weighs (arc_value (arc_value self.now.shares.shared).shared).rules.weighter key value e.kept.weight)) }
+        ensures judged { let shared = arc_value (arc_value (arc_value self.now.shares.shared).shared) in
+            IfOk result (λ made. IfSome made (λ e. Judges (W.weighs shared.rules.weighter key value) (A.admits shared.rules.filter key value)
+            (λ admitted. coming_in P.location_of P.with_phantom_of admitted (living P.expiry_of P.with_expiry_of now self.now.time_to_live properties))
+            e.kept.weight e.kept.properties)) }
     {
         let properties = expiring(properties, At::new(now), self.time_to_live);
         let kept = self
