@@ -1,5 +1,5 @@
 -- Inserts and removals that depend on what a key has.
-use Rattle.std.specs.Prelude.{◌≡◌, ℕ, ◌+◌, IsTrue, List, Option, Some, None, Result, Ok, Err}
+use Rattle.std.specs.Prelude.{◌≡◌, ℕ, IfSome, IsTrue, List, Option, Some, None, Result, Ok, Err}
 use Rattle.foyer_policy.specs.declared.error.Reason.{Reason}
 use Rattle.foyer_policy.specs.declared.types.Event.{Event}
 use Rattle.foyer_policy.specs.declared.types.Source.TheVariants.{Outer}
@@ -48,8 +48,7 @@ module _ {X Y : Type 0} where
   -- what holds of what the key has instead
   abbrev pub IfFound : Result (Replaced X Y) Reason → (Y → Type 0) → Type 0
   IfFound (Ok (Inserted made)) Q = Unit {0}
-  IfFound (Ok (Changed None)) Q = Unit {0}
-  IfFound (Ok (Changed (Some found))) Q = Q found
+  IfFound (Ok (Changed found)) Q = IfSome found Q
   IfFound (Err reason) Q = Unit {0}
 
 -- what an insert returned, if the record fits

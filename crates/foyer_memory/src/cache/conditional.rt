@@ -53,7 +53,8 @@ where
             IfInserted result (λ e. Judges (W.weighs shared.rules.weighter key value) (A.admits shared.rules.filter key value)
             (λ admitted. coming_in P.location_of P.with_phantom_of admitted (living P.expiry_of P.with_expiry_of now self.now.cache.time_to_live properties))
             e.entry.kept.weight e.entry.kept.properties) }
-        ensures found { IfFound result (λ e. (K.eq key e.entry.kept.key ≡ true) × (is_expired now (P.expiry_of e.entry.kept.properties) ≡ false)) }
+        ensures key { IfFound result (λ e. K.eq key e.entry.kept.key ≡ true) }
+        ensures live { IfFound result (λ e. is_expired now (P.expiry_of e.entry.kept.properties) ≡ false) }
         ensures kind { IfInserted result (λ e. e.kind ≡ self.now.kind) × IfFound result (λ e. e.kind ≡ self.now.kind) }
     {
         let kind = self.kind;

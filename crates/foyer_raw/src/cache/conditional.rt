@@ -62,7 +62,8 @@ where
             IfInserted result (λ e. Judges (W.weighs shared.rules.weighter key value) (A.admits shared.rules.filter key value)
             (λ admitted. coming_in P.location_of P.with_phantom_of admitted (living P.expiry_of P.with_expiry_of now self.now.time_to_live properties))
             e.kept.weight e.kept.properties) }
-        ensures found { IfFound result (λ e. (K.eq key e.kept.key ≡ true) × (is_expired now (P.expiry_of e.kept.properties) ≡ false)) }
+        ensures key { IfFound result (λ e. K.eq key e.kept.key ≡ true) }
+        ensures live { IfFound result (λ e. is_expired now (P.expiry_of e.kept.properties) ≡ false) }
     {
         let properties = expiring(properties, At::new(now), self.time_to_live);
         let kept = self

@@ -64,7 +64,8 @@ impl<E: Eviction, K: Key, V: Value, P: Properties, R: Drop, I: Finder<K>> Counte
         ensures rest { ¬ StillHas (meaning_of self.old.shard) now.0 (state_of self.old.shard) (key_of kept) (option_copied seen)
             → (told_of leaves.new ≡ []) × (opens_of self.new.shard ≡ opens_of self.old.shard) × (self.new.stats ≡ self.old.stats) }
         ensures given { IfInserted result (λ made. made.entry.kept ≡ kept) }
-        ensures asked { IfFound result (λ e. (K.eq kept.key e.kept.key ≡ true) × (is_expired now.0 (P.expiry_of e.kept.properties) ≡ false)) }
+        ensures key { IfFound result (λ e. K.eq kept.key e.kept.key ≡ true) }
+        ensures live { IfFound result (λ e. is_expired now.0 (P.expiry_of e.kept.properties) ≡ false) }
     {
         if !self.still_has(now, seen, &kept) {
             let found = self.shard.get(now.0, kept.hash(), kept.key())?;

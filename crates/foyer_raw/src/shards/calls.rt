@@ -167,7 +167,8 @@ where
         requires clones { (k c : K) → K.is_clone k c → K.eq c k ≡ true }
         requires untold { IsUntold leaves.old }
         ensures given { IfInserted result (λ made. made.entry.kept ≡ kept) }
-        ensures asked { IfFound result (λ e. (K.eq kept.key e.kept.key ≡ true) × (is_expired now.0 (P.expiry_of e.kept.properties) ≡ false)) }
+        ensures key { IfFound result (λ e. K.eq kept.key e.kept.key ≡ true) }
+        ensures live { IfFound result (λ e. is_expired now.0 (P.expiry_of e.kept.properties) ≡ false) }
     {
         self.lock(kept.hash())
             .replace_if(self.alloc, now, seen, kept, leaves)
