@@ -48,20 +48,20 @@ impl<E: Eviction, K: Key, V: Value, P: Properties, R: Drop, I: Finder<K>> Counte
     ) -> Result<RawReplaced<K, V, P>>
         requires clones { (k c : K) → K.is_clone k c → K.eq c k ≡ true }
         requires untold { IsUntold leaves.old }
-        ensures inserted { StillHas (meaning_of self.old.shard) now.0 (state_of self.old.shard) (key_of kept) (option_copied seen)
+        ensures inserted { StillHas (meaning_of self.old.shard) now.0 (state_of self.old.shard) (key_of kept) (option_copied seen.entry)
             → IfInserting result (λ made. InsertsOnto (meaning_of self.old.shard) now.0 (state_of self.old.shard) kept
             (1 + waiting_for (opens_of self.old.shard) (key_of kept)) made (told_of leaves.new) (state_of self.new.shard)) }
-        ensures answered { StillHas (meaning_of self.old.shard) now.0 (state_of self.old.shard) (key_of kept) (option_copied seen)
+        ensures answered { StillHas (meaning_of self.old.shard) now.0 (state_of self.old.shard) (key_of kept) (option_copied seen.entry)
             → IfInserting result (λ made. MatchResult made
             (λ m. AnswersEach (waiters_of ((opens_of self.old.shard).by_key (key_of kept))) m.entry m.answers
             × (opens_of self.new.shard ≡ closed K.eq (opens_of self.old.shard) (key_of kept)))
             (λ _. opens_of self.new.shard ≡ opens_of self.old.shard)) }
-        ensures counts { StillHas (meaning_of self.old.shard) now.0 (state_of self.old.shard) (key_of kept) (option_copied seen)
+        ensures counts { StillHas (meaning_of self.old.shard) now.0 (state_of self.old.shard) (key_of kept) (option_copied seen.entry)
             → IfInserting result (λ made. self.new.stats ≡ leaves_counted P.phantom_of P.expiry_of now.0 (told_of leaves.new)
             (made_counted P.phantom_of made self.old.stats)) }
-        ensures changed { ¬ StillHas (meaning_of self.old.shard) now.0 (state_of self.old.shard) (key_of kept) (option_copied seen)
+        ensures changed { ¬ StillHas (meaning_of self.old.shard) now.0 (state_of self.old.shard) (key_of kept) (option_copied seen.entry)
             → IfChanged result (λ found. Gets (meaning_of self.old.shard) now.0 (state_of self.old.shard) (key_of kept) found (state_of self.new.shard)) }
-        ensures rest { ¬ StillHas (meaning_of self.old.shard) now.0 (state_of self.old.shard) (key_of kept) (option_copied seen)
+        ensures rest { ¬ StillHas (meaning_of self.old.shard) now.0 (state_of self.old.shard) (key_of kept) (option_copied seen.entry)
             → (told_of leaves.new ≡ []) × (opens_of self.new.shard ≡ opens_of self.old.shard) × (self.new.stats ≡ self.old.stats) }
         ensures given { IfInserted result (λ made. made.entry.kept ≡ kept) }
         ensures key { IfFound result (λ e. K.eq kept.key e.kept.key ≡ true) }
@@ -76,7 +76,7 @@ impl<E: Eviction, K: Key, V: Value, P: Properties, R: Drop, I: Finder<K>> Counte
 
     // Whether the key of these data still has what was seen.
     fn still_has(&self, now: At, seen: Option<&CoreEntry<K, V, P>>, kept: &Share<K, V, P>) -> bool
-        ensures { IsTrue result ↔ StillHas (meaning_of self.now.shard) now.0 (state_of self.now.shard) (key_of kept.now) (option_copied seen) }
+        ensures { IsTrue result ↔ StillHas (meaning_of self.now.shard) now.0 (state_of self.now.shard) (key_of kept.now) (option_copied seen.entry) }
     {
         let (hash, key) = (kept.hash(), kept.key());
         match seen {
