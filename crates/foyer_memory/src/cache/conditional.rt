@@ -49,7 +49,7 @@ where
         requires clones { (k c : K) → K.is_clone k c → K.eq c k ≡ true }
         ensures entry { IfInserted result (λ e. (e.entry.kept.key ≡ key) × (e.entry.kept.value ≡ value)) }
         ensures hash { IfInserted result (λ e. e.entry.kept.hash ≡ S.hash_of (arc_value (arc_value (arc_value self.now.cache.shares.shared).shared).hash_builder) (K.hash_input key)) }
-        ensures judged { let shared = arc_value (arc_value (arc_value self.now.cache.shares.shared).shared) in
+        ensures judged { let shared = arc_value (arc_value self.now.cache.shares.shared).shared in
             IfInserted result (λ e. Judges (W.weighs shared.rules.weighter key value) (A.admits shared.rules.filter key value)
             (λ admitted. coming_in P.location_of P.with_phantom_of admitted (living P.expiry_of P.with_expiry_of now self.now.cache.time_to_live properties))
             e.entry.kept.weight e.entry.kept.properties) }
@@ -86,7 +86,7 @@ where
         requires clones { (k c : K) → K.is_clone k c → K.eq c k ≡ true }
         ensures entry { IfOk result (λ made. IfSome made (λ e. (e.entry.kept.key ≡ key) × (e.entry.kept.value ≡ value))) }
         ensures hash { IfOk result (λ made. IfSome made (λ e. e.entry.kept.hash ≡ S.hash_of (arc_value (arc_value (arc_value self.now.cache.shares.shared).shared).hash_builder) (K.hash_input key))) }
-        ensures judged { let shared = arc_value (arc_value (arc_value self.now.cache.shares.shared).shared) in
+        ensures judged { let shared = arc_value (arc_value self.now.cache.shares.shared).shared in
             IfOk result (λ made. IfSome made (λ e. Judges (W.weighs shared.rules.weighter key value) (A.admits shared.rules.filter key value)
             (λ admitted. coming_in P.location_of P.with_phantom_of admitted (living P.expiry_of P.with_expiry_of now self.now.cache.time_to_live properties))
             e.entry.kept.weight e.entry.kept.properties)) }
