@@ -30,24 +30,22 @@ fn inserted<H: Runtime>(replaced: Replaced<Entry<H>>) -> Outcome<Entry<H>> {
 fn changes<H: Runtime>(rt: H, config: EvictionConfig) -> Outcome {
     let heard = Heard::new(rt.alloc(), KEYS)?;
     let cache = cache(rt, 20 * SHARDS, SHARDS, config, &heard)?;
-    let (none, expires) = (
-        CacheProperties::default(),
-        CacheProperties::default().with_expiry(Some(NOW)),
-    );
+    let none = || CacheProperties::default();
+    let expires = || CacheProperties::default().with_expiry(Some(NOW));
     for key in 0..KEYS {
-        let old = inserted(cache.replace_if(NOW - 1, None, key, 1, expires)?)?;
-        let found = match cache.replace_if(NOW - 1, None, key, 2, none)? {
+        let old = inserted(cache.replace_if(NOW - 1, None, key, 1, expires())?)?;
+        let found = match cache.replace_if(NOW - 1, None, key, 2, none())? {
             Replaced::Changed(Some(found)) => *found,
             _ => 0,
         };
         same(rt, "found before", &found, &1)?;
-        let new = inserted(cache.replace_if(NOW, None, key, 2, none)?)?;
-        let found = match cache.replace_if(NOW, Some(&old), key, 3, none)? {
+        let new = inserted(cache.replace_if(NOW, None, key, 2, none())?)?;
+        let found = match cache.replace_if(NOW, Some(&old), key, 3, none())? {
             Replaced::Changed(Some(found)) => *found,
             _ => 0,
         };
         same(rt, "found", &found, &2)?;
-        let last = inserted(cache.replace_if(u64::MAX, Some(&new), key, 3, none)?)?;
+        let last = inserted(cache.replace_if(u64::MAX, Some(&new), key, 3, none())?)?;
         let removed = (
             cache.remove_this(&old),
             cache.remove_this(&new),
