@@ -33,6 +33,7 @@ DROPS = {
     "Handle": {"entry": "takes"},
     "Kept": {"handle": "takes"},
     "Counted": {"digit": "copies", "number": "copies"},
+    "Slow": {"flags": "takes"},
 }
 HOW = {"copies": "*{0}", "takes": "{0}.take()", "moves": "unsafe {{ ::std::mem::ManuallyDrop::take({0}) }}"}
 MOVED = {(name, field) for name, fields in DROPS.items() for field, how in fields.items() if how == "moves"}

@@ -16,6 +16,7 @@ use std::sync::{Arc, Wait};
 
 mod blocking;
 mod bulk;
+mod conditional;
 mod fetching;
 mod insertion;
 mod keys;

@@ -21,8 +21,8 @@ pub use foyer_policy::{
     Eviction, EvictionConfig, FifoConfig, LfuConfig, LruConfig, S3FifoConfig, SieveConfig,
 };
 pub use foyer_raw::{
-    Notifier, OptionalFetch, OptionalFetchBuilder, Pipe, RequiredFetch, RequiredFetchBuilder,
-    Waiter,
+    Notifier, OptionalFetch, OptionalFetchBuilder, Pipe, Replaced, RequiredFetch,
+    RequiredFetchBuilder, Waiter,
 };
 pub use kind::Kind;
 pub use of::Of;

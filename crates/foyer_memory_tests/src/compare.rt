@@ -11,6 +11,7 @@ use std::alloc::Global;
 use std::random::RandomSource;
 use std::sync::Wait;
 
+mod conditional;
 mod no_entry;
 mod runs;
 
@@ -226,7 +227,8 @@ impl<H: Wait + RandomSource + Alloc<A = Global> + Copy + Drop + 'static, E: Evic
             4 => Ok(self.cache.contains(now, &key) == self.core.contains(now, &key)),
             5 => self.remove(key),
             6 | 7 => self.fetch(rt, key, value),
-            _ => self.without_entry(pick, key, value),
+            8..=15 => self.without_entry(pick, key, value),
+            _ => self.conditional(pick, key, value),
         }
     }
 

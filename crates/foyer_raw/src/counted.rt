@@ -11,6 +11,7 @@ use foyer_policy::{Eviction, Key, Properties, Value};
 use std::alloc::Global;
 
 mod bulk;
+mod conditional;
 mod counts;
 mod entries;
 mod fetches;
@@ -19,6 +20,7 @@ mod keys;
 mod passed;
 mod pieces;
 
+pub use conditional::RawReplaced;
 pub use fetches::{Later, RawEnded};
 pub use insertion::{RawInserted, RawPut};
 pub use passed::{At, Capacity, Hashed};

@@ -102,6 +102,14 @@ where
         RawCacheEntry { shares, core }
     }
 
+    // The handle.
+    #[inline(always)]
+    pub(crate) fn core(&self) -> &CoreEntry<K, V, P>
+        ensures { result.now ≡ self.now }
+    {
+        &self.core
+    }
+
     /// Returns the hash of the key.
     pub fn hash(&self) -> u64
         ensures { result ≡ self.now.kept.hash }

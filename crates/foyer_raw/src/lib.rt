@@ -11,6 +11,7 @@ pub mod flush;
 pub mod leaves;
 pub mod listener;
 pub mod pipe;
+pub mod replaced;
 pub mod runtime;
 mod shards;
 mod shared;
@@ -29,5 +30,6 @@ pub use fetch::{
 pub use flush::{Flush, FlushIf};
 pub use listener::{NoListener, tell};
 pub use pipe::{NoopPipe, Pipe};
+pub use replaced::Replaced;
 pub use runtime::Runtime;
 pub use ticket::{Answer, Notifier, Ticket, Waiter};

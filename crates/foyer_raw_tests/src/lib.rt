@@ -11,6 +11,8 @@ mod calls;
 #[cfg(test)]
 mod collisions;
 #[cfg(test)]
+mod conditional;
+#[cfg(test)]
 mod fetches;
 #[cfg(test)]
 mod leaves;

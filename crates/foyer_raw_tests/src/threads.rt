@@ -31,8 +31,8 @@ fn two_threads_insert_and_drop(rt: HostRuntime) -> Outcome {
     Ok(())
 }
 
-// Waits until a flag is up, ten seconds at most. Whether it is.
-fn is_up(rt: &impl Clock, flag: &AtomicU64) -> bool {
+/// Waits until a flag is up, ten seconds at most. Whether it is.
+pub(crate) fn is_up(rt: &impl Clock, flag: &AtomicU64) -> bool {
     for _ in 0..10_000u64 {
         if flag.load(Ordering::SeqCst) == 1 {
             return true;
@@ -44,14 +44,15 @@ fn is_up(rt: &impl Clock, flag: &AtomicU64) -> bool {
 
 /// What two threads tell each other.
 #[derive(Drop)]
-struct Flags {
-    inside: AtomicU64,
-    looked: AtomicU64,
+pub(crate) struct Flags {
+    pub(crate) inside: AtomicU64,
+    pub(crate) looked: AtomicU64,
     seen: AtomicU64,
 }
 
 impl Flags {
-    fn new() -> Self {
+    /// No flag is up.
+    pub(crate) fn new() -> Self {
         Flags {
             inside: AtomicU64::new(0),
             looked: AtomicU64::new(0),
@@ -59,16 +60,16 @@ impl Flags {
         }
     }
 
-    // Says that it is inside, and waits until the other has looked.
-    fn wait_inside(&self, rt: &impl Clock) {
+    /// Says that it is inside, and waits until the other has looked.
+    pub(crate) fn wait_inside(&self, rt: &impl Clock) {
         self.inside.store(1, Ordering::SeqCst);
         if is_up(rt, &self.looked) {
             self.seen.store(1, Ordering::SeqCst);
         }
     }
 
-    // Whether the other looked while this was inside.
-    fn were_seen(&self) -> bool {
+    /// Whether the other looked while this was inside.
+    pub(crate) fn were_seen(&self) -> bool {
         self.seen.load(Ordering::SeqCst) == 1
     }
 }
@@ -177,6 +178,19 @@ fn make_leave<H: Wait + Clock + Drop + 'static>(cache: &Told<H>, call: u64) -> b
             drop(cache.flush(0));
             true
         }
+        8 => match cache.get(0, &1) {
+            Ok(Some(seen)) => cache
+                .replace_if(0, Some(&seen), 1, 11, CacheProperties::default())
+                .is_ok(),
+            _ => false,
+        },
+        9 => match cache.get(0, &1) {
+            Ok(Some(seen)) => cache.remove_this(&seen),
+            _ => false,
+        },
+        10 => cache
+            .insert_if_fits(0, 2, 20, CacheProperties::default())
+            .is_ok(),
         _ => {
             drop(cache.flush_if(|_, _| true));
             true
@@ -187,7 +201,7 @@ fn make_leave<H: Wait + Clock + Drop + 'static>(cache: &Told<H>, call: u64) -> b
 // While a listener is told, another thread looks into the same shard, and asks for the capacity.
 #[test]
 fn no_lock_is_held_while_a_leave_is_told(rt: HostRuntime) -> Outcome {
-    for call in 0..9u64 {
+    for call in 0..12u64 {
         let flags = Arc::new(rt.alloc(), Flags::new())?;
         let listener = Patient {
             rt,

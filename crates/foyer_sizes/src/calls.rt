@@ -3,6 +3,7 @@
 use crate::cache::{Cache, Fetch, Led, target};
 use crate::case::{Failure, Outcome, Runtime, same};
 use foyer_core::{CacheProperties, Piece};
+use foyer_memory::Replaced;
 use futures::Future;
 use futures::future::FutureExt;
 
@@ -14,6 +15,8 @@ pub type Removed = Piece<u64, u64, CacheProperties>;
 pub enum Call {
     Insert,
     Put,
+    ReplaceIf,
+    InsertIfFits,
     InsertPiece,
     Fetch,
     Resize(usize),
@@ -31,6 +34,19 @@ impl Call {
         match self {
             Call::Insert => drop(cache.insert(now, key, value)?),
             Call::Put => cache.put(now, key, value)?,
+            Call::ReplaceIf => {
+                let replaced = cache.replace_if(now, None, key, value, CacheProperties::default())?;
+                same(
+                    rt,
+                    "inserted",
+                    &matches!(&replaced, Replaced::Inserted(_)),
+                    &true,
+                )?;
+            }
+            Call::InsertIfFits => {
+                let made = cache.insert_if_fits(now, key, value, CacheProperties::default())?;
+                same(rt, "inserted", &made.is_some(), &true)?;
+            }
             Call::InsertPiece => drop(cache.insert_piece(now, piece)?),
             Call::Fetch => {
                 let mut led = Led { task: None };

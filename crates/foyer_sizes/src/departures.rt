@@ -18,6 +18,8 @@ pub fn run<H: Runtime>(cases: &mut Cases<H>) -> Outcome {
     for (name, call, told) in [
         ("an insert evicts 20,000", Call::Insert, all),
         ("a put evicts 20,000", Call::Put, all),
+        ("a replace_if evicts 20,000", Call::ReplaceIf, all),
+        ("an insert_if_fits evicts 20,000", Call::InsertIfFits, all),
         ("a piece evicts 20,000", Call::InsertPiece, all),
         ("a fetch evicts 20,000", Call::Fetch, all),
         (

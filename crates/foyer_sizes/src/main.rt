@@ -9,6 +9,7 @@
 mod cache;
 mod calls;
 mod case;
+mod conditional;
 mod cores;
 mod departures;
 mod handles;
@@ -43,6 +44,7 @@ fn run<H: Runtime>(cases: &mut Cases<H>) -> Outcome {
     departures::run(cases)?;
     shards::run(cases)?;
     sparse::run(cases)?;
+    conditional::run(cases)?;
     made::run(cases)?;
     hashes::run(cases)?;
     waits::run(cases)?;

@@ -33,6 +33,11 @@ pub fn run<H: Runtime>(cases: &mut Cases<H>) -> Outcome {
     for (name, call) in [
         ("an insert evicts what is expired first", Call::Insert),
         ("a put evicts what is expired first", Call::Put),
+        ("a replace_if evicts what is expired first", Call::ReplaceIf),
+        (
+            "an insert_if_fits evicts what is expired first",
+            Call::InsertIfFits,
+        ),
         ("a piece evicts what is expired first", Call::InsertPiece),
         ("a fetch evicts what is expired first", Call::Fetch),
         (
@@ -52,6 +57,10 @@ pub fn run<H: Runtime>(cases: &mut Cases<H>) -> Outcome {
         (
             "a put beside a fetch evicts what is expired first",
             Call::Put,
+        ),
+        (
+            "a replace_if beside a fetch evicts what is expired first",
+            Call::ReplaceIf,
         ),
     ] {
         cases.of_each_policy(name, |config| evicts(rt, config, call, true))?;

@@ -22,6 +22,7 @@ use std::hash::{BuildHasher, Hash};
 use std::sync::Arc;
 
 mod bulk;
+mod conditional;
 mod entryless;
 mod making;
 

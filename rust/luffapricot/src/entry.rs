@@ -42,6 +42,10 @@ impl<K: Key, V: Value, S, P: Properties> CacheEntry<K, V, S, P> {
         CacheEntry(ManuallyDrop::new(inner))
     }
 
+    pub(crate) fn inner(&self) -> &InnerEntry<K, V, S, P> {
+        &self.0
+    }
+
     /// Returns the hash of the key.
     pub fn hash(&self) -> u64 {
         self.0.hash()

@@ -41,5 +41,6 @@ pub use pipe::{ArcPipe, BoxFuture, NoopPipe, Piece, Pipe};
 pub use properties::{CacheProperties, Properties};
 pub use proved::foyer_core::Stats;
 pub use proved::foyer_policy::{Age, DefaultHasher, Event, Hint, Location, ModHasher, Source};
+pub use proved::foyer_raw::Replaced;
 pub use rules::{EventListener, Filter, Key, Value, Weighter};
 pub use types::{FetchTarget, OptionalFetch, OptionalFetchBuilder, RequiredFetch, RequiredFetchBuilder};

@@ -69,7 +69,7 @@ type Cheated = Cache<Liar, Box<u64>>;
 
 fn call(cache: &Cheated, key: Liar, random: &mut Random, hands: &mut Hands) {
     let value = Box::new(key.id);
-    match random.below(20) {
+    match random.below(23) {
         0..6 => {
             let entry = cache.insert(key, value);
             if random.below(8) == 0 {
@@ -101,6 +101,9 @@ fn call(cache: &Cheated, key: Liar, random: &mut Random, hands: &mut Hands) {
             _ => drop(cache.keys()),
         },
         18 => drop(hands.waits.drain(..).collect::<Vec<_>>()),
+        19 => drop(cache.replace_if(hands.entries.last(), key, value)),
+        20 => drop(cache.replace_if(None, key, value)),
+        21 => drop((cache.insert_if_fits(key, value), hands.entries.pop().map(|entry| cache.remove_this(&entry)))),
         _ => {}
     }
 }

@@ -132,7 +132,13 @@ fn run(policy: EvictionConfig) -> u64 {
             serial += 1;
             let page = Page::new(serial);
             let before = told.lock().unwrap().len();
-            let (result, is_refused) = match step % 5 {
+            let (result, is_refused) = match step % 7 {
+                5 => {
+                    let seen = kept.iter().rfind(|entry: &&CacheEntry<u64, Page>| *entry.key() == key);
+                    let replaced = refusing(n, || cache.try_replace_if(seen, key, page, CacheProperties::default()));
+                    (replaced.0.map(|replaced| matches!(replaced, Replaced::Inserted(_)).then(|| cache.get(&key)).flatten()), replaced.1)
+                }
+                6 => refusing(n, || cache.try_insert_if_fits(key, page, CacheProperties::default())),
                 0..3 => refusing(n, || cache.try_insert(key, page, CacheProperties::default()).map(Some)),
                 3 => refusing(n, || cache.get_or_try_insert_with(&(key + 100), || Ok::<_, BoxError>(page)).map(Some)),
                 _ => {

@@ -89,7 +89,25 @@ fn work(cache: &Cache<String, Page>, flow: &Flow, serials: &AtomicU64, seed: u64
                     flow.come(serial);
                 }
             }
-            90..98 => held.truncate(random.below(20) as usize),
+            90..92 => {
+                let (seen, serial) = (cache.get(key.as_str()), serials.fetch_add(1, SeqCst));
+                match cache.replace_if(seen.as_ref(), key.clone(), Page::new(&key, serial)) {
+                    Replaced::Inserted(entry) => {
+                        entry.check(&key);
+                        flow.come(serial);
+                    }
+                    Replaced::Changed(found) => drop(found.map(|entry| entry.check(&key))),
+                }
+            }
+            92..94 => {
+                let serial = serials.fetch_add(1, SeqCst);
+                if let Some(entry) = cache.insert_if_fits(key.clone(), Page::new(&key, serial)) {
+                    entry.check(&key);
+                    flow.come(serial);
+                }
+            }
+            94..96 => drop(held.pop().map(|entry| cache.remove_this(&entry))),
+            96..98 => held.truncate(random.below(20) as usize),
             _ => match step % 7 {
                 0 => cache.clear(),
                 1 => cache.resize(50 + random.below(100) as usize).unwrap(),
@@ -138,6 +156,35 @@ fn what_came_in_left_or_is_in() {
         assert_eq!(flow.came_sum.load(SeqCst), flow.left_sum.load(SeqCst) + is_in_sum);
         drop(cache);
         assert_eq!(flow.came_sum.load(SeqCst), flow.left_sum.load(SeqCst));
+    }
+}
+
+// Adds to the number of a key, which begins as missing.
+fn add(cache: &Cache<u64, u64>, key: u64, more: u64) {
+    let mut seen = cache.get(&key);
+    loop {
+        let sum = seen.as_deref().copied().unwrap_or(0) + more;
+        match cache.replace_if(seen.as_ref(), key, sum) {
+            Replaced::Inserted(_) => return,
+            Replaced::Changed(found) => seen = found,
+        }
+    }
+}
+
+#[test]
+fn no_change_by_replace_if_is_lost() {
+    for policy in policies() {
+        let cache: Cache<u64, u64> = CacheBuilder::new(1000).with_shards(3).with_eviction_config(policy).build();
+        let steps = std::env::var("STEPS").map_or(3000, |steps| steps.parse().expect("a number"));
+        std::thread::scope(|scope| {
+            for thread in 0..8 {
+                let cache = &cache;
+                scope.spawn(move || (0..steps).for_each(|step| add(cache, step % 5, thread + (1 << 40))));
+            }
+        });
+        let sum: u64 = (0..5).map(|key| cache.get_cloned(&key).expect("a sum")).sum();
+        assert_eq!(sum, steps * ((0..8).sum::<u64>() + (8 << 40)));
+        assert_eq!((cache.stats().inserts, cache.stats().replaced), (8 * steps, 8 * steps - 5));
     }
 }
 

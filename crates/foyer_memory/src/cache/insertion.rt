@@ -68,7 +68,7 @@ where
         requires clones { (k c : K) → K.is_clone k c → K.eq c k ≡ true }
         ensures entry { IfOk result (λ e. (e.entry.kept.key ≡ key) × (e.entry.kept.value ≡ value)) }
         ensures hash { IfOk result (λ e. e.entry.kept.hash ≡ S.hash_of (arc_value (arc_value (arc_value self.now.cache.shares.shared).shared).hash_builder) (K.hash_input key)) }
-        ensures judged { let shared = arc_value (arc_value (arc_value self.now.cache.shares.shared).shared) in
+        ensures judged { let shared = arc_value (arc_value self.now.cache.shares.shared).shared in
             IfOk result (λ e. Judges (W.weighs shared.rules.weighter key value) (A.admits shared.rules.filter key value)
             (λ admitted. coming_in P.location_of P.with_phantom_of admitted (living P.expiry_of P.with_expiry_of now self.now.cache.time_to_live properties))
             e.entry.kept.weight e.entry.kept.properties) }

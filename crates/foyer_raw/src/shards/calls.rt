@@ -6,10 +6,11 @@ ghost use Rattle.foyer_policy.specs.Moments.{is_expired};
 ghost use Rattle.foyer_core.specs.Looks.{IfHit};
 ghost use Rattle.foyer_core.specs.NoEntry.{SeesLive};
 ghost use Rattle.foyer_core.specs.declared.outcome.Lookup.TheVariants.{Hit, Lead, Wait as Waits};
+ghost use Rattle.foyer_raw.specs.Conditional.{IfFound, IfInserted};
 ghost use Rattle.foyer_raw.specs.Told.{IsUntold};
 
 use super::Shards;
-use crate::counted::{At, Hashed, Later, RawEnded, RawInserted, RawPut};
+use crate::counted::{At, Hashed, Later, RawEnded, RawInserted, RawPut, RawReplaced};
 use crate::leaves::Leaves;
 use crate::ticket::{Answer, Notifier};
 use foyer_core::{CoreEntry, Data, Finder, Got, Leave, Left, Lookup, Piece, Share};
@@ -154,6 +155,41 @@ where
     {
         self.lock(kept.hash())
             .emplace(self.alloc, now, kept, leaves)
+    }
+
+    pub(crate) fn replace_if(
+        &self,
+        now: At,
+        seen: Option<&CoreEntry<K, V, P>>,
+        kept: Share<K, V, P>,
+        leaves: &mut Leaves<K, V, P>,
+    ) -> Result<RawReplaced<K, V, P>>
+        requires clones { (k c : K) → K.is_clone k c → K.eq c k ≡ true }
+        requires untold { IsUntold leaves.old }
+        ensures given { IfInserted result (λ made. made.entry.kept ≡ kept) }
+        ensures key { IfFound result (λ e. K.eq kept.key e.kept.key ≡ true) }
+        ensures live { IfFound result (λ e. is_expired now.0 (P.expiry_of e.kept.properties) ≡ false) }
+    {
+        self.lock(kept.hash())
+            .replace_if(self.alloc, now, seen, kept, leaves)
+    }
+
+    pub(crate) fn insert_if_fits(
+        &self,
+        now: At,
+        kept: Share<K, V, P>,
+        leaves: &mut Leaves<K, V, P>,
+    ) -> Result<Option<RawInserted<K, V, P>>>
+        requires clones { (k c : K) → K.is_clone k c → K.eq c k ≡ true }
+        requires untold { IsUntold leaves.old }
+        ensures { IfOk result (λ made. IfSome made (λ m. m.entry.kept ≡ kept)) }
+    {
+        self.lock(kept.hash())
+            .insert_if_fits(self.alloc, now, kept, leaves)
+    }
+
+    pub(crate) fn remove_this(&self, core: &CoreEntry<K, V, P>) -> Option<Left<K, V, P>> {
+        self.lock(core.hash()).remove_this(core)
     }
 
     pub(crate) fn emplace_piece(

@@ -5,6 +5,7 @@ use super::caches::{Entry, Locked, Search, Shared};
 use crate::call::Kept;
 use crate::cores::weighing;
 use foyer_core::{CacheProperties, FetchTarget};
+use foyer_memory::Replaced;
 use foyer_policy::{Error, Properties, Reason, Result};
 use foyer_raw::ListSpawner;
 use futures::Future;
@@ -17,6 +18,11 @@ pub enum Call {
     Insert(u64, usize),
     Put(u64, usize),
     PutPhantom(u64),
+    /// The key 5 has the held entry's record, and another key none.
+    Replace(u64, usize),
+    /// Nothing is seen of a key that has a record.
+    Changed(u64),
+    Fit(u64, usize),
     Phantom(u64),
     Piece(u64),
     Get(u64),
@@ -25,6 +31,7 @@ pub enum Call {
     FetchBlocking(u64),
     Remove(u64),
     Delete(u64),
+    RemoveThis,
     Read(u64),
     Peek(u64),
     Copied(u64),
@@ -89,8 +96,9 @@ pub fn make<H: Runtime>(
             return ended(cx, locked, call);
         }
         Call::CloneCache => return Ok(Answer::Cache(cache.try_clone()?)),
-        Call::CloneEntry | Call::TakePiece => return asked(locked, call),
+        Call::CloneEntry | Call::TakePiece | Call::RemoveThis => return asked(locked, call),
         Call::Insert(..) | Call::Phantom(_) | Call::Piece(_) => return inserted(cx, locked, call),
+        Call::Replace(..) | Call::Fit(..) => return conditional(cx, locked, call),
         Call::Put(..) | Call::PutPhantom(_) => return put(cx, locked, call),
         _ => return found(locked, call),
     }
@@ -124,6 +132,31 @@ fn inserted<H: Runtime>(
         _ => return Ok(Answer::Odd),
     };
     Ok(with_waits(cx, locked, Some(made)))
+}
+
+// The same, if the key has what was seen, or if the record fits.
+fn conditional<H: Runtime>(
+    cx: &mut Context<'_>,
+    locked: &mut Locked<H>,
+    call: Call,
+) -> Result<Answer<H>> {
+    let (cache, properties) = (&locked.cache, CacheProperties::default());
+    let made = match call {
+        Call::Replace(key, weight) => {
+            let seen = if key == 5 { locked.held.as_ref() } else { None };
+            match cache.replace_if(0, seen, key, weighing(weight), properties)? {
+                Replaced::Inserted(entry) => Some(entry),
+                Replaced::Changed(_) => None,
+            }
+        }
+        Call::Fit(key, weight) => cache.insert_if_fits(0, key, weighing(weight), properties)?,
+        _ => None,
+    };
+    match (made, call) {
+        (Some(made), _) => Ok(with_waits(cx, locked, Some(made))),
+        (None, Call::Fit(_, weight)) => Ok(yes(weight > 12)),
+        _ => Ok(Answer::Odd),
+    }
 }
 
 // The same without an entry.
@@ -167,6 +200,16 @@ fn found<H: Runtime>(locked: &mut Locked<H>, call: Call) -> Result<Answer<H>> {
             Some(locked.cache.get_or_fetch_blocking(0, &key, fetch)?)
         }
         Call::Remove(key) => locked.cache.remove(&key)?,
+        Call::Changed(key) => {
+            let properties = CacheProperties::default();
+            match locked
+                .cache
+                .replace_if(0, None, key, weighing(2), properties)?
+            {
+                Replaced::Inserted(_) => None,
+                Replaced::Changed(found) => found,
+            }
+        }
         Call::Touch(key) => return Ok(yes(locked.cache.touch(0, &key)?)),
         Call::Delete(key) => return Ok(yes(locked.cache.delete(&key)?)),
         Call::Read(_) | Call::Peek(_) | Call::Copied(_) | Call::Cloned(_) => {
@@ -207,13 +250,14 @@ fn yes<H: Runtime>(is_so: bool) -> Answer<H> {
     if is_so { Answer::Done } else { Answer::Odd }
 }
 
-// Asks the held entry for one more, or for a piece.
+// Asks the held entry for one more, or for a piece, or has its record removed.
 fn asked<H: Runtime>(locked: &Locked<H>, call: Call) -> Result<Answer<H>> {
     let Some(held) = &locked.held else {
         return Ok(Answer::Odd);
     };
     match call {
         Call::CloneEntry => Ok(Answer::one(held.try_clone()?)),
+        Call::RemoveThis => Ok(yes(locked.cache.remove_this(held))),
         _ => Ok(Answer::Piece(held.piece()?)),
     }
 }

@@ -21,6 +21,12 @@ pub fn row(name: &str) -> Option<(Filled, Call)> {
         "locked_put_evicts_10" => (FULL, Call::Put(FETCHED, 10)),
         "locked_put_for_two_who_wait" => (WAITED, Call::Put(FETCHED, 1)),
         "locked_put_phantom" => (ROOMY, Call::PutPhantom(FETCHED)),
+        "locked_replace_if" => (ROOMY, Call::Replace(5, 1)),
+        "locked_replace_if_evicts_10" => (FULL, Call::Replace(FETCHED, 10)),
+        "locked_replace_if_for_two_who_wait" => (WAITED, Call::Replace(FETCHED, 1)),
+        "locked_replace_if_changed" => (ROOMY, Call::Changed(5)),
+        "locked_insert_if_fits" => (FULL, Call::Fit(FETCHED, 10)),
+        "locked_insert_if_full" => (FULL, Call::Fit(FETCHED, 13)),
         "locked_phantom" => (ROOMY, Call::Phantom(5)),
         "locked_resident_piece" => (ROOMY, Call::Piece(5)),
         "locked_piece_comes_back" => (ROOMY, Call::Piece(11)),
@@ -33,6 +39,7 @@ pub fn row(name: &str) -> Option<(Filled, Call)> {
         "locked_make_hit" => (ROOMY, Call::Make(5, 1)),
         "locked_fetch_blocking_hit" => (ROOMY, Call::FetchBlocking(5)),
         "locked_delete" => (ROOMY, Call::Delete(5)),
+        "locked_remove_this" => (ROOMY, Call::RemoveThis),
         "locked_read" => (ROOMY, Call::Read(5)),
         "locked_peek" => (ROOMY, Call::Peek(5)),
         "locked_get_copied" => (ROOMY, Call::Copied(5)),
@@ -72,6 +79,10 @@ pub fn wanted(filled: Filled, call: Call, victims: &'static [u64; 10]) -> Wanted
             refs: if filled.waits { 2 } else { 1 },
             ..of_insert(filled, Call::Insert(key, weight), victims)
         },
+        Call::Fit(_, 13) => same,
+        Call::Replace(key, weight) | Call::Fit(key, weight) => {
+            of_insert(filled, Call::Insert(key, weight), victims)
+        }
         Call::Make(FETCHED, weight) => of_insert(filled, Call::Insert(FETCHED, weight), victims),
         Call::Make(..) | Call::FetchBlocking(_) => Wanted { refs: 2, ..same },
         Call::PutPhantom(_) => Wanted {
@@ -79,12 +90,14 @@ pub fn wanted(filled: Filled, call: Call, victims: &'static [u64; 10]) -> Wanted
             events: (Event::Remove, Event::Evict),
             ..same
         },
-        Call::Delete(_) => Wanted {
+        Call::Delete(_) | Call::RemoveThis => Wanted {
             leaves: &[5],
             events: (Event::Remove, Event::Remove),
             ..same
         },
-        Call::Get(_) | Call::Fetch(5) | Call::CloneEntry => Wanted { refs: 2, ..same },
+        Call::Get(_) | Call::Changed(_) | Call::Fetch(5) | Call::CloneEntry => {
+            Wanted { refs: 2, ..same }
+        }
         Call::Remove(_) => Wanted {
             leaves: &[5],
             events: (Event::Remove, Event::Remove),

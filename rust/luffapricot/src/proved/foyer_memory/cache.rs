@@ -15,6 +15,7 @@ use crate::rattle_std::sync::{Arc, Wait};
 
 mod blocking;
 mod bulk;
+mod conditional;
 mod fetching;
 mod insertion;
 mod keys;

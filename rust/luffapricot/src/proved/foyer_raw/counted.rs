@@ -12,6 +12,7 @@ use crate::proved::foyer_policy::{Eviction, Key, Properties, Value};
 use crate::rattle_std::alloc::Global;
 
 mod bulk;
+mod conditional;
 mod counts;
 mod entries;
 mod fetches;
@@ -20,6 +21,7 @@ mod keys;
 mod passed;
 mod pieces;
 
+pub use conditional::RawReplaced;
 pub use fetches::{Later, RawEnded};
 pub use insertion::{RawInserted, RawPut};
 pub use passed::{At, Capacity, Hashed};

@@ -70,6 +70,12 @@ where
         }
     }
 
+    // The handle.
+    #[inline(always)]
+    pub(crate) fn core(&self) -> &CoreEntry<K, V, P> {
+        &self.core
+    }
+
     /// Returns the hash of the key.
     #[inline]
     pub fn hash(&self) -> u64 {

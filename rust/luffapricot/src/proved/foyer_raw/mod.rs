@@ -13,6 +13,7 @@ pub mod flush;
 pub mod leaves;
 pub mod listener;
 pub mod pipe;
+pub mod replaced;
 pub mod runtime;
 mod shards;
 mod shared;
@@ -30,5 +31,6 @@ pub use fetch::{
 pub use flush::{Flush, FlushIf};
 pub use listener::{NoListener, tell};
 pub use pipe::{NoopPipe, Pipe};
+pub use replaced::Replaced;
 pub use runtime::Runtime;
 pub use ticket::{Answer, Notifier, Ticket, Waiter};

@@ -1,0 +1,109 @@
+//! Inserts and removals that depend on what a key has.
+
+ghost use Rattle.std.specs.Prelude.{◌≡◌, IfOk, IfSome, false, true};
+ghost use Rattle.std.specs.Arc.{arc_value};
+ghost use Rattle.foyer_policy.specs.Moments.{is_expired};
+ghost use Rattle.foyer_core.specs.Rules.{Judges};
+ghost use Rattle.foyer_core.specs.State.{coming_in};
+ghost use Rattle.foyer_raw.specs.Conditional.{IfFound, IfInserted};
+ghost use Rattle.foyer_raw.specs.Lives.{living};
+
+use super::Cache;
+use crate::entry::CacheEntry;
+use foyer_core::{Filter, Finder, Weighter};
+use foyer_policy::{EventListener, HashBuilder, Key, Properties, Result, Value};
+use foyer_raw::{FetchTypes, Pipe, Replaced};
+use std::sync::Wait;
+
+impl<H, K, V, S, P, W, A, L, Q, T, I> Cache<H, K, V, S, P, W, A, L, Q, T, I>
+where
+    H: Wait + Drop,
+    K: Key,
+    V: Value,
+    S: HashBuilder,
+    P: Properties,
+    W: Weighter<K, V>,
+    A: Filter<K, V>,
+    L: EventListener<Key = K, Value = V>,
+    I: Finder<K>,
+    Q: Pipe<Key = K, Value = V, Properties = P>,
+    T: FetchTypes<K, V, P>,
+{
+    /// Inserts a record as `insert_with_properties` does, if the key still has the record of `seen`, expired or not, or, for
+    /// `None`, if a `get` at `now` finds none. If not, nothing is inserted, and the result is what a `get` at `now` finds: that
+    /// counts as a use, but not among hits and misses. All of it is one step, under one lock.
+    ///
+    /// So a value is changed by a `get` and a `replace_if`, again until it has `Inserted`. A key never has the record of another
+    /// key's entry, nor of another cache's, if the caches have different numbers (`with_number`).
+    ///
+    /// # Errors
+    /// Those of `insert_with_properties`, or of `get`.
+    pub fn replace_if(
+        &self,
+        now: u64,
+        seen: Option<&CacheEntry<H, K, V, S, P, W, A, L, Q, T, I>>,
+        key: K,
+        value: V,
+        properties: P,
+    ) -> Result<Replaced<CacheEntry<H, K, V, S, P, W, A, L, Q, T, I>>>
+        requires clones { (k c : K) → K.is_clone k c → K.eq c k ≡ true }
+        ensures entry { IfInserted result (λ e. (e.entry.kept.key ≡ key) × (e.entry.kept.value ≡ value)) }
+        ensures hash { IfInserted result (λ e. e.entry.kept.hash ≡ S.hash_of (arc_value (arc_value (arc_value self.now.cache.shares.shared).shared).hash_builder) (K.hash_input key)) }
+        ensures judged { let shared = arc_value (arc_value self.now.cache.shares.shared).shared in
+            IfInserted result (λ e. Judges (W.weighs shared.rules.weighter key value) (A.admits shared.rules.filter key value)
+            (λ admitted. coming_in P.location_of P.with_phantom_of admitted (living P.expiry_of P.with_expiry_of now self.now.cache.time_to_live properties))
+            e.entry.kept.weight e.entry.kept.properties) }
+        ensures key { IfFound result (λ e. K.eq key e.entry.kept.key ≡ true) }
+        ensures live { IfFound result (λ e. is_expired now (P.expiry_of e.entry.kept.properties) ≡ false) }
+        ensures kind { IfInserted result (λ e. e.kind ≡ self.now.kind) × IfFound result (λ e. e.kind ≡ self.now.kind) }
+    {
+        let kind = self.kind;
+        let seen = match seen {
+            Some(entry) => Some(&entry.entry),
+            None => None,
+        };
+        match self.cache.replace_if(now, seen, key, value, properties)? {
+            Replaced::Inserted(entry) => Ok(Replaced::Inserted(CacheEntry { entry, kind })),
+            Replaced::Changed(Some(entry)) => {
+                Ok(Replaced::Changed(Some(CacheEntry { entry, kind })))
+            }
+            Replaced::Changed(None) => Ok(Replaced::Changed(None)),
+        }
+    }
+
+    /// Inserts a record as `insert_with_properties` does, if its weight is at most its shard's capacity less what is pinned of
+    /// other keys there. If not, nothing is inserted or evicted, and the result is `None`.
+    ///
+    /// # Errors
+    /// Those of `insert_with_properties`.
+    pub fn insert_if_fits(
+        &self,
+        now: u64,
+        key: K,
+        value: V,
+        properties: P,
+    ) -> Result<Option<CacheEntry<H, K, V, S, P, W, A, L, Q, T, I>>>
+        requires clones { (k c : K) → K.is_clone k c → K.eq c k ≡ true }
+        ensures entry { IfOk result (λ made. IfSome made (λ e. (e.entry.kept.key ≡ key) × (e.entry.kept.value ≡ value))) }
+        ensures hash { IfOk result (λ made. IfSome made (λ e. e.entry.kept.hash ≡ S.hash_of (arc_value (arc_value (arc_value self.now.cache.shares.shared).shared).hash_builder) (K.hash_input key))) }
+        ensures judged { let shared = arc_value (arc_value self.now.cache.shares.shared).shared in
+            IfOk result (λ made. IfSome made (λ e. Judges (W.weighs shared.rules.weighter key value) (A.admits shared.rules.filter key value)
+            (λ admitted. coming_in P.location_of P.with_phantom_of admitted (living P.expiry_of P.with_expiry_of now self.now.cache.time_to_live properties))
+            e.entry.kept.weight e.entry.kept.properties)) }
+        ensures kind { IfOk result (λ made. IfSome made (λ e. e.kind ≡ self.now.kind)) }
+    {
+        let kind = self.kind;
+        match self.cache.insert_if_fits(now, key, value, properties)? {
+            Some(entry) => Ok(Some(CacheEntry { entry, kind })),
+            None => Ok(None),
+        }
+    }
+
+    /// Removes the entry's record, expired or not, if its key still has it, and returns whether it had. The listener is told of
+    /// it as `Remove`. The entry stays held.
+    ///
+    /// A record of another cache isn't removed, if the caches have different numbers (`with_number`).
+    pub fn remove_this(&self, entry: &CacheEntry<H, K, V, S, P, W, A, L, Q, T, I>) -> bool {
+        self.cache.remove_this(&entry.entry)
+    }
+}

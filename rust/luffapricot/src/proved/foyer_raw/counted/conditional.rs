@@ -1,0 +1,106 @@
+//! Inserts and removals that depend on what a key has.
+
+// Written by rust/erase/erase.py from crates/foyer_raw/src/counted/conditional.rt: change that.
+#[allow(unused_imports)]
+use crate::rattle_std::prelude::*;
+use super::counts::{count_leaves, count_made};
+use super::{At, CountedShard, FIRST, RawInserted};
+use crate::proved::foyer_raw::leaves::Leaves;
+use crate::proved::foyer_raw::replaced::Replaced;
+use crate::proved::foyer_core::{CoreEntry, Finder, Hold, Left, Share};
+use crate::proved::foyer_policy::{Event, Eviction, Key, Properties, Result, Source, Value};
+use crate::rattle_std::alloc::Global;
+
+/// What a conditional insert returns that has not failed.
+pub type RawReplaced<K, V, P> = Replaced<RawInserted<K, V, P>, CoreEntry<K, V, P>>;
+
+impl<E: Eviction, K: Key, V: Value, P: Properties, R, I: Finder<K>> CountedShard<E, K, V, P, R, I> {
+    /// Inserts a record at a time with this share of its data, if its key still has what was seen. If not, looks the key up as
+    /// `get` does, and counts neither a hit nor a miss.
+    ///
+    /// The caller keeps another share of the data, so that no data is dropped under the lock.
+    #[inline]
+    pub fn replace_if(
+        &mut self,
+        alloc: Global,
+        now: At,
+        seen: Option<&CoreEntry<K, V, P>>,
+        kept: Share<K, V, P>,
+        leaves: &mut Leaves<K, V, P>,
+    ) -> Result<RawReplaced<K, V, P>> {
+        if !self.still_has(now, seen, &kept) {
+            let found = self.shard.get(now.0, kept.hash(), kept.key())?;
+            return Ok(Replaced::Changed(found));
+        }
+        Ok(Replaced::Inserted(
+            self.emplace_leaving(alloc, now, kept, leaves)?,
+        ))
+    }
+
+    // Whether the key of these data still has what was seen.
+    #[inline]
+    fn still_has(&self, now: At, seen: Option<&CoreEntry<K, V, P>>, kept: &Share<K, V, P>) -> bool {
+        let (hash, key) = (kept.hash(), kept.key());
+        match seen {
+            Some(entry) => {
+                self.shard.owns(entry)
+                    && entry.hash() == hash
+                    && self.shard.is_current(now.0, hash, key, Some(entry.id()))
+            }
+            None => self.shard.is_current(now.0, hash, key, None),
+        }
+    }
+
+    /// Inserts a record at a time with this share of its data, if it fits beside what is pinned of other keys. If not, nothing
+    /// happens.
+    ///
+    /// The caller keeps another share of the data, so that no data is dropped under the lock.
+    #[inline]
+    pub fn insert_if_fits(
+        &mut self,
+        alloc: Global,
+        now: At,
+        kept: Share<K, V, P>,
+        leaves: &mut Leaves<K, V, P>,
+    ) -> Result<Option<RawInserted<K, V, P>>> {
+        if !self.shard.would_fit(kept.hash(), kept.key(), kept.weight()) {
+            return Ok(None);
+        }
+        Ok(Some(self.emplace_leaving(alloc, now, kept, leaves)?))
+    }
+
+    // Inserts a record at a time with this share of its data, also while fetches are open.
+    #[inline]
+    fn emplace_leaving(
+        &mut self,
+        alloc: Global,
+        now: At,
+        kept: Share<K, V, P>,
+        leaves: &mut Leaves<K, V, P>,
+    ) -> Result<RawInserted<K, V, P>> {
+        let made = self
+            .shard
+            .emplace_share(alloc, now.0, kept, Source::Outer, &mut self.left);
+        count_made(&mut self.stats, &made);
+        count_leaves(&mut self.stats, now.0, self.left.as_slice());
+        leaves.take(&mut self.left);
+        made
+    }
+
+    /// Removes an entry's record, expired or not, if its key still has it, and returns it as it left (`Remove`).
+    ///
+    /// Takes no memory.
+    #[inline]
+    pub fn remove_this(&mut self, entry: &CoreEntry<K, V, P>) -> Option<Left<K, V, P>> {
+        if !self.shard.owns(entry) {
+            return None;
+        }
+        let left = self.shard.remove_this(Hold {
+            hash: entry.hash(),
+            id: entry.id(),
+            slot: 0,
+        })?;
+        self.stats.count_left(FIRST, Event::Remove, &left);
+        Some(left)
+    }
+}
