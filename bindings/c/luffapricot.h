@@ -133,8 +133,10 @@ typedef struct luffa_entry {
     const void *value;
     size_t value_len;
     size_t weight;
-    size_t number; /* private, as what follows */
-    uint32_t event;
+    uint64_t expires; /* from this time on no lookup finds the record; 0 without LUFFA_EXPIRES */
+    uint32_t flags;   /* LUFFA_EXPIRES, LUFFA_LOW_PRIORITY, LUFFA_PHANTOM, as it was inserted */
+    uint32_t event;   /* private, as what follows */
+    size_t number;
     uint64_t owner;
     void *shard;
 } luffa_entry;

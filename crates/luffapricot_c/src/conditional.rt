@@ -5,8 +5,8 @@ ghost use Rattle.luffapricot_c.specs.Calls.{OnHeld};
 ghost use Rattle.luffapricot_c.specs.Conditional.{InsertsIfFits, RemovesThis, ReplacesIf, entry_at, seen_at};
 ghost use Rattle.luffapricot_c.specs.Statuses.{Tells, fits_of, found_of, told_of};
 
-use crate::cache::LuffaTerms;
 use crate::record::LuffaRecord;
+use crate::terms::LuffaTerms;
 use crate::{LuffaShard, status};
 use std::alloc::Global;
 

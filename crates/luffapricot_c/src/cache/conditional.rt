@@ -6,12 +6,12 @@ ghost use Rattle.slab.specs.Slab.{get};
 ghost use Rattle.luffapricot_c.specs.Conditional.{FitsIn, InsertsIfFits, RemovesThis, ReplacesIf, StillHas, entry_at, seen_at};
 
 use super::holds::forget_left;
-use super::{ByteCache, LuffaTerms};
+use super::ByteCache;
 use crate::hold::{Entry, Held, Hold};
 use crate::key::Key;
 use crate::record::LuffaRecord;
 use crate::status;
-use foyer_core::Hold as Name;
+use crate::terms::LuffaTerms;
 use foyer_policy::{Event, Result};
 use slab::Slab;
 
@@ -30,7 +30,7 @@ fn seen(holds: &Slab<Hold>, number: usize) -> Option<u64>
     ensures { result ≡ seen_at (get holds.now number) }
 {
     match entry(holds, number) {
-        Some(entry) => Some(entry.id()),
+        Some(entry) => Some(entry.name().id),
         None => None,
     }
 }
@@ -114,12 +114,7 @@ impl ByteCache {
         let Some(entry) = entry(&self.holds, number) else {
             return Ok(false);
         };
-        let name = Name {
-            hash: entry.hash(),
-            id: entry.id(),
-            slot: 0,
-        };
-        match self.core.remove_this(name) {
+        match self.core.remove_this(entry.name()) {
             Some(left) => {
                 self.left.push_reserved((Event::Remove, left));
                 forget_left(&mut self.left, self.has_listener);
