@@ -26,3 +26,7 @@ Holds {K} {V} {P} m now old k (Ok (Some hold)) new =
     (entry : Held K V P) × (hold.hash ≡ k.0) × (hold.id ≡ entry.id) × Gets m now old k (Ok (Some entry)) new
 Holds m now old k (Err Handles) new = Gets m now old k (Err Handles) new
 Holds m now old k (Err _) new = ⊥
+
+-- the name of a record of a state, in the shard of this hash, that has this value
+abbrev pub Names : {K V P View : Type 0} → State K V P View → ℕ → V → Hold → Type 0
+Names s hash v hold = (hold.hash ≡ hash) × IsSomeAnd (s.records hold.id) (λ r. r.kept.value ≡ v)

@@ -1,6 +1,4 @@
 -- The steps of calls that return no entry: each is a step that returns one, and that entry's way back.
-use denote.Ref.{Bor}
-use Rattle.std.specs.Fn.{Once}
 use Rattle.std.specs.Prelude.{◌≡◌, ℕ, List, Option, Some, None, Result, Ok, Err, Bool, true, false, IfOk, IfSome}
 use Rattle.foyer_policy.specs.Moments.{is_expired}
 use Rattle.foyer_policy.specs.declared.types.Event.{Event}
@@ -8,8 +6,6 @@ use Rattle.foyer_policy.specs.declared.types.Source.TheVariants.{Outer}
 use Rattle.foyer_policy.specs.declared.error.Reason.{Reason}
 use Rattle.foyer_policy.specs.declared.error.Reason.TheVariants.{Handles}
 use Rattle.foyer_core.specs.declared.outcome.PutOnto.{PutOnto}
-use Rattle.foyer_core.specs.declared.outcome.Read.{Read}
-use Rattle.foyer_core.specs.declared.outcome.Read.TheVariants.{Full, Missing, Seen}
 use Rattle.foyer_core.specs.declared.record.Data.{Data}
 use Rattle.foyer_core.specs.Core.{AtShard, Core}
 use Rattle.foyer_core.specs.Values.{Gone, Held, Incoming, Rec}
@@ -26,16 +22,6 @@ abbrev pub is_found : {T : Type 0} → Result (Option T) Reason → Result Bool 
 is_found (Ok None) = Ok false
 is_found (Ok (Some _)) = Ok true
 is_found (Err reason) = Err reason
-
--- whether a read saw a value
-abbrev pub has_seen : {T O : Type 0} → Read T O → Result Bool Reason
-has_seen (Seen _) = Ok true
-has_seen (Missing _) = Ok false
-has_seen (Full _) = Err Handles
-
--- a call of f at a reference to x, with what is lent to it, may give r
-abbrev pub ReturnsLent : {F V O R : Type 0} → Once F (Bor V × (O × Unit {0})) R → F → O → V → R → Type 0
-ReturnsLent {F} {V} {O} g f lent x r = (p : Bor V) × g.post f (p, (lent, tt)) r × (p.now ≡ x)
 
 -- What a look at the value of a key's record may give, one that is not expired at a moment: `sees` says what it may make
 -- of a value, and `expires` when properties say that a record expires.
@@ -61,18 +47,6 @@ module _ {K V P View C : Type 0} (m : Meaning K P View C) where
       (result : Result (Option T) Reason) (new : State K V P View) : Type 0 where
     pub touches : Touches m now old k (is_found result) new
     pub seen : IfOk result (λ found. IfSome found (Sees now old k sees))
-
-  -- what a read gives back that lends something: what its look makes of the value, or what was lent
-  abbrev pub SeesOr : {T O : Type 0} → ℕ → State K V P View → ℕ × K → O → (V → T → Type 0) → Read T O → Type 0
-  SeesOr now s k lent sees (Seen t) = Sees now s k sees t
-  SeesOr now s k lent sees (Missing o) = o ≡ lent
-  SeesOr now s k lent sees (Full o) = o ≡ lent
-
-  -- What such a read answers at a moment: a touch, and a look at the value.
-  pub record ReadsWith {T O : Type 0} (now : ℕ) (old : State K V P View) (k : ℕ × K) (lent : O) (sees : V → T → Type 0)
-      (result : Read T O) (new : State K V P View) : Type 0 where
-    pub touches : Touches m now old k (has_seen result) new
-    pub seen : SeesOr now old k lent sees result
 
   -- What a peek answers at a moment: a look at the value, where the key hits one.
   abbrev pub Peeks : {T : Type 0} → ℕ → State K V P View → ℕ × K → (V → T → Type 0) → Option T → Type 0

@@ -35,7 +35,7 @@ pub use indexer::{HashTableIndexer, Indexer, Sentry};
 pub use inflight::{Enqueue, FetchOrTake, InflightManager};
 pub use outcome::{
     Answers, Ended, FetchTarget, Foreign, Got, Inserted, InsertedOnto, Lookup, Outcome, PutOnto,
-    Read, Refused, ReplaceResult, Waiting,
+    Refused, ReplaceResult, Waiting,
 };
 pub use piece::Piece;
 pub use properties::{CacheProperties, marked};

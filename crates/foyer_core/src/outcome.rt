@@ -148,16 +148,6 @@ impl<K, V, P, N> Answers<K, V, P, N> {
     }
 }
 
-/// What a read gives that lends something to its look.
-pub enum Read<T, O> {
-    /// What the look made of the value.
-    Seen(T),
-    /// What was lent, since there is no such record.
-    Missing(O),
-    /// What was lent: the handle count would pass its limit (F9).
-    Full(O),
-}
-
 /// An entry that isn't the shard's.
 #[derive(Clone, Copy)]
 pub struct Foreign;

@@ -5,7 +5,8 @@ use foyer_core::{
     Answers, CacheProperties, Data, Finder, InsertedOnto, Limits, Shard, Share, TagFinder,
 };
 use foyer_policy::{
-    Event, Eviction, Fifo, FifoConfig, Lru, LruConfig, Properties, Reason, Result, Source,
+    Event, Eviction, Fifo, FifoConfig, Lru, LruConfig, Properties, Reason, Result, Sieve,
+    SieveConfig, Source,
 };
 use std::alloc::Global;
 use std::process::Abort;

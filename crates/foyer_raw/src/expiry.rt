@@ -1,6 +1,7 @@
 //! A cache's time to live.
 
-ghost use Rattle.std.specs.Prelude.{◌≡◌, IsSome, None};
+ghost use Rattle.std.specs.Prelude.{◌≡◌};
+ghost use Rattle.foyer_raw.specs.Lives.{living};
 
 use crate::counted::At;
 use foyer_policy::Properties;
@@ -8,8 +9,7 @@ use foyer_policy::Properties;
 /// These properties, with an expiry at `now + time_to_live` (at most 2^64 - 1) if they have none of their own.
 #[inline(always)]
 pub(crate) fn expiring<P: Properties>(properties: P, now: At, time_to_live: Option<u64>) -> P
-    ensures plain { time_to_live ≡ None → result ≡ properties }
-    ensures own { IsSome (P.expiry_of properties) → result ≡ properties }
+    ensures { result ≡ living P.expiry_of P.with_expiry_of now.0 time_to_live properties }
 {
     let Some(time_to_live) = time_to_live else {
         return properties;

@@ -10,7 +10,6 @@ use super::load::Load;
 use crate::entry::{CoreEntry, Leave, Left};
 use crate::filter::Filter;
 use crate::finder::Finder;
-use crate::outcome::Read;
 use crate::weighter::Weighter;
 use foyer_policy::{Eviction, HashBuilder, Key, Properties, Result, Value};
 
@@ -30,7 +29,7 @@ impl<
     ghost use Rattle.foyer_core.specs.Core.{AtShard, IsOutdatedIn, Owns, refs_in, shard_at};
     ghost use Rattle.foyer_core.specs.Cores.{core_of, fetches_of, hashes_of, meaning_of_core};
     ghost use Rattle.foyer_core.specs.Laws.{one_of};
-    ghost use Rattle.foyer_core.specs.NoEntry.{Peeks, Reads, ReadsWith, ReturnsLent};
+    ghost use Rattle.foyer_core.specs.NoEntry.{Peeks, Reads};
     ghost use Rattle.foyer_core.specs.Steps.{ClonesHandle, GivesBack, Removes, Touches};
 
     /// Counts a use of the record that the key hits at `now`, and returns what `look` makes of its value.
@@ -51,25 +50,6 @@ impl<
         let hash = self.hash(key);
         let place = self.shard_index(hash);
         self.shards[place].read(now, hash, key, look)
-    }
-
-    /// Reads as `read` does, and lends `look` something, such as a buffer, which comes back if there is nothing to read.
-    #[inline(always)]
-    pub fn read_with<O, T, F: FnOnce(&V, O) -> T>(
-        &mut self,
-        now: u64,
-        key: &K,
-        lent: O,
-        look: F,
-    ) -> Read<T, O>
-        requires callable { F.IsAlwaysCallable look }
-        ensures reads { AtShard (λ s t. ReadsWith (meaning_of_core self.old) now s (hashes_of self.old key.now, key.now) lent
-            (ReturnsLent F.FnOnce look lent) result t) (hashes_of self.old key.now) (core_of self.old) (core_of self.new) }
-        ensures fetches { fetches_of self.new ≡ fetches_of self.old }
-    {
-        let hash = self.hash(key);
-        let place = self.shard_index(hash);
-        self.shards[place].read_with(now, hash, key, lent, look)
     }
 
     /// Returns the value that the key hits at `now`. It counts no use, and takes no memory.

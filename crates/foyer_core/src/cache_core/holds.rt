@@ -32,7 +32,8 @@ impl<
     ghost use Rattle.foyer_core.specs.CallLaws.{CallLaws};
     ghost use Rattle.foyer_core.specs.Core.{AtShard, shard_at};
     ghost use Rattle.foyer_core.specs.Cores.{core_of, fetches_of, hashes_of, meaning_of_core};
-    ghost use Rattle.foyer_core.specs.Holds.{Holds, IsHeld, one_named};
+    ghost use Rattle.foyer_core.specs.Holds.{Holds, IsHeld, Names, one_named};
+    ghost use Rattle.foyer_core.specs.NoEntry.{Reads};
     ghost use Rattle.foyer_core.specs.Steps.{GivesBack};
 
     /// Looks a key up as `get` does, and returns the name of the handle in place of an entry.
@@ -52,6 +53,23 @@ impl<
         let hash = self.hash(key);
         let place = self.shard_index(hash);
         self.shards[place].hold(now, hash, key)
+    }
+
+    /// Counts a use of the record that the key hits at `now`, and returns its name, by which `held` finds it until the
+    /// core is changed. No handle is counted. Takes no memory.
+    ///
+    /// # Errors
+    /// F9 if the handle count would pass its limit; nothing has changed.
+    #[inline(always)]
+    pub fn touch_named(&mut self, now: u64, key: &K) -> Result<Option<Hold>>
+        ensures reads { let hash = hashes_of self.old key.now in
+            AtShard (λ s t. Reads (meaning_of_core self.old) now s (hash, key.now) (Names t hash) result t)
+            hash (core_of self.old) (core_of self.new) }
+        ensures fetches { fetches_of self.new ≡ fetches_of self.old }
+    {
+        let hash = self.hash(key);
+        let place = self.shard_index(hash);
+        self.shards[place].touch_named(now, hash, key)
     }
 
     /// Takes a handle back by its name, and returns what left with it.

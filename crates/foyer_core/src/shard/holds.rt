@@ -22,7 +22,8 @@ impl<E: Eviction, K: Key, V: Value, P: Properties, N: Drop, R: Drop, I: Finder<K
 > {
     ghost use Rattle.foyer_core.specs.Shards.{state_of, meaning_of, opens_of};
     ghost use Rattle.foyer_core.specs.Bulk.{TakesRecordOut};
-    ghost use Rattle.foyer_core.specs.Holds.{Holds};
+    ghost use Rattle.foyer_core.specs.Holds.{Holds, Names};
+    ghost use Rattle.foyer_core.specs.NoEntry.{Reads};
     ghost use Rattle.foyer_core.specs.State.{handles_in};
     ghost use Rattle.foyer_core.specs.Steps.{GivesBack};
 
@@ -38,6 +39,20 @@ impl<E: Eviction, K: Key, V: Value, P: Properties, N: Drop, R: Drop, I: Finder<K
         ensures opens { opens_of self.new ≡ opens_of self.old }
     {
         self.store.hold_key(now, hash, key)
+    }
+
+    /// Counts a use of the record that the key hits at `now`, and returns its name, by which `held` finds it until the
+    /// shard is changed. No handle is counted. Takes no memory.
+    ///
+    /// # Errors
+    /// F9 if the handle count would pass its limit; nothing has changed.
+    #[inline(always)]
+    pub fn touch_named(&mut self, now: u64, hash: u64, key: &K) -> Result<Option<Hold>>
+        ensures reads { Reads (meaning_of self.old) now (state_of self.old) (hash, key.now) (Names (state_of self.new) hash)
+            result (state_of self.new) }
+        ensures opens { opens_of self.new ≡ opens_of self.old }
+    {
+        self.store.touch_named(now, hash, key)
     }
 
     /// Takes a handle back by its name, and returns what left with it, as `take_back` does. If the id has no handle

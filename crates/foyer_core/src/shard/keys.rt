@@ -6,7 +6,6 @@ ghost use Rattle.std.specs.Fn.{FnOnceReturnsAt};
 use super::Shard;
 use crate::entry::{CoreEntry, Left};
 use crate::finder::Finder;
-use crate::outcome::Read;
 use foyer_policy::{Eviction, Key, Properties, Result, Value};
 
 impl<E: Eviction, K: Key, V: Value, P: Properties, N: Drop, R: Drop, I: Finder<K>> Shard<
@@ -19,7 +18,7 @@ impl<E: Eviction, K: Key, V: Value, P: Properties, N: Drop, R: Drop, I: Finder<K
     I,
 > {
     ghost use Rattle.foyer_core.specs.Shards.{state_of, meaning_of, opens_of};
-    ghost use Rattle.foyer_core.specs.NoEntry.{Deletes, Peeks, Reads, ReadsWith, ReturnsLent, SeesLive};
+    ghost use Rattle.foyer_core.specs.NoEntry.{Deletes, Peeks, Reads, SeesLive};
     ghost use Rattle.foyer_core.specs.Steps.{Removes, Touches};
 
     /// Counts a use of the record that the key hits at `now`, and returns what `look` makes of its value.
@@ -43,24 +42,6 @@ impl<E: Eviction, K: Key, V: Value, P: Properties, N: Drop, R: Drop, I: Finder<K
         ensures opens { opens_of self.new ≡ opens_of self.old }
     {
         self.store.read(now, hash, key, look)
-    }
-
-    /// Reads as `read` does, and lends `look` something, such as a buffer, which comes back if there is nothing to read.
-    #[inline(always)]
-    pub fn read_with<O, T, F: FnOnce(&V, O) -> T>(
-        &mut self,
-        now: u64,
-        hash: u64,
-        key: &K,
-        lent: O,
-        look: F,
-    ) -> Read<T, O>
-        requires callable { F.IsAlwaysCallable look }
-        ensures reads { ReadsWith (meaning_of self.old) now (state_of self.old) (hash, key.now) lent
-            (ReturnsLent F.FnOnce look lent) result (state_of self.new) }
-        ensures opens { opens_of self.new ≡ opens_of self.old }
-    {
-        self.store.read_with(now, hash, key, lent, look)
     }
 
     /// Returns the value that the key hits at `now`. It counts no use, and takes no memory.
@@ -109,6 +90,7 @@ impl<E: Eviction, K: Key, V: Value, P: Properties, N: Drop, R: Drop, I: Finder<K
     {
         self.store.remove(hash, key)
     }
+
     /// Removes the key's record, expired or not, and returns it as it left (`Remove`). No entry is made.
     ///
     /// Takes no memory.

@@ -1,48 +1,40 @@
-//! Reads that lend their look something, and the value under a key.
+//! The value under a key, for reading in place.
 
 ghost use Rattle.std.specs.Prelude.{◌≡◌, option_copied};
 
 use super::Store;
 use crate::finder::Finder;
-use crate::outcome::Read;
+use crate::hold::Hold;
 use crate::prefetch;
-use foyer_policy::{Eviction, Key, Place, Properties, Value};
+use foyer_policy::{Error, Eviction, Key, Place, Properties, Reason, Result, Value};
 
 impl<E: Eviction, K: Key, V: Value, P: Properties, I: Finder<K>> Store<E, K, V, P, I> {
     ghost use Rattle.foyer_core.specs.Stores.{state_of, meaning_of};
-    ghost use Rattle.foyer_core.specs.NoEntry.{Peeks, ReadsWith, ReturnsLent};
+    ghost use Rattle.foyer_core.specs.Holds.{Names};
+    ghost use Rattle.foyer_core.specs.NoEntry.{Peeks, Reads};
 
-    /// Counts a use of the record that the key hits at `now`, and returns what `look` makes of its value and of what is
-    /// lent, as `Shard::read_with` does.
+    /// Counts a use of the record that the key hits at `now`, and returns its name, as `Shard::touch_named` does.
     #[inline(always)]
-    pub fn read_with<O, T, F: FnOnce(&V, O) -> T>(
-        &mut self,
-        now: u64,
-        hash: u64,
-        key: &K,
-        lent: O,
-        look: F,
-    ) -> Read<T, O>
-        requires callable { F.IsAlwaysCallable look }
-        ensures reads { ReadsWith (meaning_of self.old) now (state_of self.old) (hash, key.now) lent
-            (ReturnsLent F.FnOnce look lent) result (state_of self.new) }
+    pub fn touch_named(&mut self, now: u64, hash: u64, key: &K) -> Result<Option<Hold>>
+        ensures reads { Reads (meaning_of self.old) now (state_of self.old) (hash, key.now) (Names (state_of self.new) hash)
+            result (state_of self.new) }
     {
         let Some((slot, found)) = self.live_under(now, hash, key) else {
-            return Read::Missing(lent);
+            return Ok(None);
         };
         let handles = found.handles();
         if handles >= self.limits.handles {
-            return Read::Full(lent);
+            return Err(Error::new(Reason::Handles));
         }
+        let id = found.id();
         let place = Place::at(slot);
         prefetch::keep(self.eviction.look_ahead(place));
-        let seen = look(found.value(), lent);
         self.eviction.acquire(place);
         if handles > 0 {
-            return Read::Seen(seen);
+            return Ok(Some(Hold { hash, id, slot }));
         }
         self.eviction.release(place);
-        Read::Seen(seen)
+        Ok(Some(Hold { hash, id, slot }))
     }
 
     /// Returns the value that the key hits at `now`, as `Shard::value` does.

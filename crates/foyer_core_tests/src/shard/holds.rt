@@ -55,6 +55,46 @@ fn keys_of_one_hash_are_held_apart(rt: HostRuntime) -> Done {
     Ok(())
 }
 
+// A touch that names its record counts a use and no handle, and is refused where a handle would be.
+#[test]
+fn a_touch_names_its_record(rt: HostRuntime) -> Done {
+    let limits = Limits {
+        handles: 1,
+        ..Limits::default()
+    };
+    let mut shard: Over<Sieve> = empty(rt.alloc(), limits, &SieveConfig {})?;
+    put_data(&rt, rt.alloc(), &mut shard, under(7, 1, 2));
+    put_data(&rt, rt.alloc(), &mut shard, under(7, 2, 3));
+    let named = shard.touch_named(0, 7, &1)?.expect(&rt, "a record");
+    assert_eq!(rt; (named.hash, named.id), (7, 0));
+    let found = shard.held(named).expect(&rt, "a record");
+    assert_eq!(rt; (*found.key(), *found.value(), found.refs()), (1, 10, 0));
+    assert!(rt; shard.unhold(named).is_err());
+    assert!(rt; shard.touch_named(0, 7, &3)?.is_none() && shard.touch_named(0, 8, &1)?.is_none());
+    let held = held(&rt, &mut shard, 7, 2);
+    assert!(rt; shard.touch_named(0, 7, &2).is_err());
+    back(&rt, &mut shard, held);
+    // The key 1 was used, and 2 too, by its hold: Sieve passes both by, and evicts what came first.
+    let mut leaves = Vec::new(rt.alloc());
+    shard.put(0, share(&rt, rt.alloc(), data(9, 1)), &mut leaves)?;
+    assert_left(&rt, &leaves, &[(Event::Evict, 1)]);
+    assert!(rt; shard.held(named).is_none());
+    Ok(())
+}
+
+// Without the use the first one leaves, with it the second.
+#[test]
+fn a_named_touch_is_a_use(rt: HostRuntime) -> Done {
+    let mut shard: Over<Sieve> = empty(rt.alloc(), Limits::default(), &SieveConfig {})?;
+    put_data(&rt, rt.alloc(), &mut shard, under(7, 1, 2));
+    put_data(&rt, rt.alloc(), &mut shard, under(7, 2, 3));
+    assert!(rt; shard.touch_named(0, 7, &1)?.is_some());
+    let mut leaves = Vec::new(rt.alloc());
+    shard.put(0, share(&rt, rt.alloc(), data(9, 1)), &mut leaves)?;
+    assert_left(&rt, &leaves, &[(Event::Evict, 2)]);
+    Ok(())
+}
+
 // A name removes its own record alone, and only while that is resident.
 #[test]
 fn a_name_removes_its_record(rt: HostRuntime) -> Done {

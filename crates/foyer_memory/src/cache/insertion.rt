@@ -2,6 +2,9 @@
 
 ghost use Rattle.std.specs.Prelude.{◌≡◌, IfOk, true};
 ghost use Rattle.std.specs.Arc.{arc_value};
+ghost use Rattle.foyer_core.specs.Rules.{Judges};
+ghost use Rattle.foyer_core.specs.State.{coming_in};
+ghost use Rattle.foyer_raw.specs.Lives.{living};
 
 use super::Cache;
 use crate::entry::CacheEntry;
@@ -65,7 +68,10 @@ where
         requires clones { (k c : K) → K.is_clone k c → K.eq c k ≡ true }
         ensures entry { IfOk result (λ e. (e.entry.kept.key ≡ key) × (e.entry.kept.value ≡ value)) }
         ensures hash { IfOk result (λ e. e.entry.kept.hash ≡ S.hash_of (arc_value (arc_value (arc_value self.now.cache.shares.shared).shared).hash_builder) (K.hash_input key)) }
-        ensures weight { IfOk result (λ e. W.weighs (arc_value (arc_value self.now.cache.shares.shared).shared).rules.weighter key value e.entry.kept.weight) }
+        ensures judged { let shared = arc_value (arc_value (arc_value self.now.cache.shares.shared).shared) in
+            IfOk result (λ e. Judges (W.weighs shared.rules.weighter key value) (A.admits shared.rules.filter key value)
+            (λ admitted. coming_in P.location_of P.with_phantom_of admitted (living P.expiry_of P.with_expiry_of now self.now.cache.time_to_live properties))
+            e.entry.kept.weight e.entry.kept.properties) }
         ensures kind { IfOk result (λ e. e.kind ≡ self.now.kind) }
     {
         Ok(CacheEntry {

@@ -5,9 +5,9 @@
 use crate::rattle_std::prelude::*;
 use crate::proved::foyer_core::slot::Slot;
 
-/// The name of a handle that a shard counts: it has no share of the record's data, and fits three words.
+/// The name of a record in its shard, which has no share of the record's data, and fits three words.
 ///
-/// It must be spent, by `unhold` of its core. A copy is the same handle, and not one more.
+/// A handle that `hold` counts by it must be spent, by `unhold` of its core. A copy is the same handle, and not one more.
 #[derive(Clone, Copy, Debug, PartialEq, Eq)]
 pub struct Hold {
     /// The key's hash, which picks the shard.

@@ -36,8 +36,8 @@ pub use hold::{Hold, RecordRef};
 pub use indexer::{HashTableIndexer, Indexer, Sentry};
 pub use inflight::{Enqueue, FetchOrTake, InflightManager};
 pub use outcome::{
-    Answers, Ended, FetchTarget, Foreign, Got, Inserted, InsertedOnto, Lookup, Outcome, PutOnto, Read,
-    Refused, ReplaceResult, Waiting,
+    Answers, Ended, FetchTarget, Foreign, Got, Inserted, InsertedOnto, Lookup, Outcome, PutOnto, Refused,
+    ReplaceResult, Waiting,
 };
 pub use piece::Piece;
 pub use properties::{CacheProperties, marked};

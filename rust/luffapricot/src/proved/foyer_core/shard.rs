@@ -20,6 +20,7 @@ mod fetches;
 mod holds;
 mod insertion;
 mod keys;
+mod puts;
 mod questions;
 mod resident_pieces;
 

@@ -32,11 +32,7 @@ pub trait Properties: Sized + Default + 'static {
     fn age(&self) -> Option<Age>;
 
     /// Returns these properties with the time at which the record expires, or `None` for never, if the type keeps it.
-    #[inline]
-    fn with_expiry(self, expires: Option<u64>) -> Self {
-        let _ = expires;
-        self
-    }
+    fn with_expiry(self, expires: Option<u64>) -> Self;
 
     /// Returns the time at which the record expires, or `None` for never.
     ///

@@ -8,7 +8,6 @@ use super::load::Load;
 use crate::proved::foyer_core::entry::{CoreEntry, Leave, Left};
 use crate::proved::foyer_core::filter::Filter;
 use crate::proved::foyer_core::finder::Finder;
-use crate::proved::foyer_core::outcome::Read;
 use crate::proved::foyer_core::weighter::Weighter;
 use crate::proved::foyer_policy::{Eviction, HashBuilder, Key, Properties, Result, Value};
 
@@ -36,20 +35,6 @@ impl<
         let hash = self.hash(key);
         let place = self.shard_index(hash);
         self.shards[place].read(now, hash, key, look)
-    }
-
-    /// Reads as `read` does, and lends `look` something, such as a buffer, which comes back if there is nothing to read.
-    #[inline(always)]
-    pub fn read_with<O, T, F: FnOnce(&V, O) -> T>(
-        &mut self,
-        now: u64,
-        key: &K,
-        lent: O,
-        look: F,
-    ) -> Read<T, O> {
-        let hash = self.hash(key);
-        let place = self.shard_index(hash);
-        self.shards[place].read_with(now, hash, key, lent, look)
     }
 
     /// Returns the value that the key hits at `now`. It counts no use, and takes no memory.

@@ -39,6 +39,18 @@ impl<
         self.shards[place].hold(now, hash, key)
     }
 
+    /// Counts a use of the record that the key hits at `now`, and returns its name, by which `held` finds it until the
+    /// core is changed. No handle is counted. Takes no memory.
+    ///
+    /// # Errors
+    /// F9 if the handle count would pass its limit; nothing has changed.
+    #[inline(always)]
+    pub fn touch_named(&mut self, now: u64, key: &K) -> Result<Option<Hold>> {
+        let hash = self.hash(key);
+        let place = self.shard_index(hash);
+        self.shards[place].touch_named(now, hash, key)
+    }
+
     /// Takes a handle back by its name, and returns what left with it.
     ///
     /// With its last handle a resident record is released, a phantom one leaves, and any other is forgotten. A name

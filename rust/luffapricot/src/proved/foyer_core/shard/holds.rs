@@ -22,6 +22,16 @@ impl<E: Eviction, K: Key, V: Value, P: Properties, N, R, I: Finder<K>> Shard<E, 
         self.store.hold_key(now, hash, key)
     }
 
+    /// Counts a use of the record that the key hits at `now`, and returns its name, by which `held` finds it until the
+    /// shard is changed. No handle is counted. Takes no memory.
+    ///
+    /// # Errors
+    /// F9 if the handle count would pass its limit; nothing has changed.
+    #[inline(always)]
+    pub fn touch_named(&mut self, now: u64, hash: u64, key: &K) -> Result<Option<Hold>> {
+        self.store.touch_named(now, hash, key)
+    }
+
     /// Takes a handle back by its name, and returns what left with it, as `take_back` does. If the id has no handle
     /// here, it is `Foreign`, and nothing has changed. Takes no memory.
     #[inline(always)]

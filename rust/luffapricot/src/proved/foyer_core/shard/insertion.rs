@@ -6,7 +6,7 @@ use crate::rattle_std::prelude::*;
 use super::Shard;
 use crate::proved::foyer_core::entry::{CoreEntry, Leave};
 use crate::proved::foyer_core::finder::Finder;
-use crate::proved::foyer_core::outcome::{Answers, Further, Handles, InsertedOnto, PutOnto};
+use crate::proved::foyer_core::outcome::{Answers, Further, Handles, InsertedOnto};
 use crate::proved::foyer_core::piece::Piece;
 use crate::proved::foyer_core::record::Data;
 use crate::proved::foyer_core::share::Share;
@@ -44,7 +44,7 @@ impl<E: Eviction, K: Key, V: Value, P: Properties, N, R, I: Finder<K>> Shard<E, 
     // The error of an insert of a new record with these parts for which memory runs out: F10, F9 or F8 if it has one of
     // these, with a handle for each waiter, else F7.
     #[cold]
-    fn out_of_memory(&self, hash: u64, key: &K, properties: &P, weight: usize) -> Error {
+    pub(crate) fn out_of_memory(&self, hash: u64, key: &K, properties: &P, weight: usize) -> Error {
         let further = self.further(hash, key);
         self.store
             .out_of_memory(hash, key, properties, weight, further.count)
@@ -104,90 +104,10 @@ impl<E: Eviction, K: Key, V: Value, P: Properties, N, R, I: Finder<K>> Shard<E, 
         self.store.place(now, kept, entry, leaves)
     }
 
-    /// Inserts a record with this share of its data as `emplace` does, while no fetch is open, and takes its entry back, as
-    /// one step that makes none. Appends what leaves, and returns what left with the entry: a phantom record.
-    ///
-    /// # Errors
-    /// Those of `emplace`.
-    #[inline(always)]
-    pub fn put(
-        &mut self,
-        now: u64,
-        kept: Share<K, V, P>,
-        leaves: &mut Vec<Leave<K, V, P>>,
-    ) -> Result<Option<Leave<K, V, P>>> {
-        self.store.put(now, kept, leaves)
-    }
-
-    /// Inserts a record as `emplace` does, of which no entry is wanted: as one step, that entry is taken back. None is
-    /// made if no fetch is open. Appends what leaves.
-    ///
-    /// # Errors
-    /// Those of `emplace`.
-    #[inline(always)]
-    pub fn put_onto(
-        &mut self,
-        alloc: Global,
-        now: u64,
-        kept: Data<K, V, P>,
-        leaves: &mut Vec<Leave<K, V, P>>,
-    ) -> Result<PutOnto<K, V, P, N>> {
-        match Share::new(alloc, kept) {
-            Ok(kept) => self.put_share(alloc, now, kept, leaves),
-            Err(kept) => Err(self.out_of_memory(kept.hash, &kept.key, &kept.properties, kept.weight)),
-        }
-    }
-
-    /// Inserts a record with this share of its data as `put_onto` does.
-    ///
-    /// # Errors
-    /// Those of `emplace`.
-    #[inline(always)]
-    pub fn put_share(
-        &mut self,
-        alloc: Global,
-        now: u64,
-        kept: Share<K, V, P>,
-        leaves: &mut Vec<Leave<K, V, P>>,
-    ) -> Result<PutOnto<K, V, P, N>> {
-        if self.has_fetches() {
-            return self.put_answering(alloc, now, kept, leaves);
-        }
-        match self.put(now, kept, leaves) {
-            Ok(last) => Ok(PutOnto {
-                last,
-                answers: Answers::nobody(alloc),
-            }),
-            Err(error) => Err(error),
-        }
-    }
-
-    // Inserts as `put_onto` does, if there are open fetches.
-    #[cold]
-    #[inline(never)]
-    fn put_answering(
-        &mut self,
-        alloc: Global,
-        now: u64,
-        kept: Share<K, V, P>,
-        leaves: &mut Vec<Leave<K, V, P>>,
-    ) -> Result<PutOnto<K, V, P, N>> {
-        match self.emplace_answering(alloc, now, kept, Source::Outer, leaves) {
-            Ok(InsertedOnto { entry, answers }) => {
-                let Ok(last) = self.store.take_back_at(entry.id(), entry.slot()) else {
-                    crate::rattle_std::macros::unreachable!();
-                };
-                entry.discard();
-                Ok(PutOnto { last, answers })
-            }
-            Err(error) => Err(error),
-        }
-    }
-
     // Inserts as `emplace` does, if there are open fetches.
     #[cold]
     #[inline(never)]
-    fn emplace_answering(
+    pub(crate) fn emplace_answering(
         &mut self,
         alloc: Global,
         now: u64,

@@ -6,7 +6,6 @@ use crate::rattle_std::prelude::*;
 use super::Shard;
 use crate::proved::foyer_core::entry::{CoreEntry, Left};
 use crate::proved::foyer_core::finder::Finder;
-use crate::proved::foyer_core::outcome::Read;
 use crate::proved::foyer_policy::{Eviction, Key, Properties, Result, Value};
 
 impl<E: Eviction, K: Key, V: Value, P: Properties, N, R, I: Finder<K>> Shard<E, K, V, P, N, R, I> {
@@ -25,19 +24,6 @@ impl<E: Eviction, K: Key, V: Value, P: Properties, N, R, I: Finder<K>> Shard<E, 
         look: F,
     ) -> Result<Option<T>> {
         self.store.read(now, hash, key, look)
-    }
-
-    /// Reads as `read` does, and lends `look` something, such as a buffer, which comes back if there is nothing to read.
-    #[inline(always)]
-    pub fn read_with<O, T, F: FnOnce(&V, O) -> T>(
-        &mut self,
-        now: u64,
-        hash: u64,
-        key: &K,
-        lent: O,
-        look: F,
-    ) -> Read<T, O> {
-        self.store.read_with(now, hash, key, lent, look)
     }
 
     /// Returns the value that the key hits at `now`. It counts no use, and takes no memory.
@@ -71,6 +57,7 @@ impl<E: Eviction, K: Key, V: Value, P: Properties, N, R, I: Finder<K>> Shard<E, 
     pub fn remove(&mut self, hash: u64, key: &K) -> Result<Option<(CoreEntry<K, V, P>, Left<K, V, P>)>> {
         self.store.remove(hash, key)
     }
+
     /// Removes the key's record, expired or not, and returns it as it left (`Remove`). No entry is made.
     ///
     /// Takes no memory.

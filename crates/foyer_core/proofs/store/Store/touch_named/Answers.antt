@@ -1,11 +1,13 @@
-use Rattle.std.proofs.Common.{◌≡◌, ◌<◌, ℕ, Some, refl, ◌∙◌, ap, arith, rules}
-use Rattle.foyer_core.specs.Stores.{meaning_of}
+use Rattle.std.proofs.Common.{◌≡◌, ◌<◌, ℕ, Some, refl, ◌∙◌, ap, subst, sym, arith, rules}
+use Rattle.std.specs.Prelude.{IsSomeAnd}
+use Rattle.foyer_core.specs.Stores.{meaning_of, state_of}
 use Rattle.foyer_core.specs.Table.{rec_of}
 use Rattle.foyer_core.specs.Records.{slot_in}
+use Rattle.foyer_core.specs.Values.{Rec}
 use Rattle.foyer_core.proofs.Holdings.{holding}
 use Rattle.foyer_core.proofs.ShardLemmas.{found, placed}
 use Rattle.foyer_core.proofs.Touched.{used, used_held, used_last, touched, touched_kept, touched_stored, touched_weight, touched_entries}
-use Rattle.foyer_core.proofs.store.Store.read_with.Goals as goal
+use Rattle.foyer_core.proofs.store.Store.touch_named.Goals as goal
 
 pub returns-then-handles-self : goal.returns-then-handles-self
 returns-then-handles-self g c =
@@ -14,7 +16,7 @@ returns-then-handles-self g c =
     let there : slot_in s.records c.in-Some.slot ≡ Some x = c.in-Some.ensures.there in
     let led = c.in-Some.ensures.led in
     let live = c.in-Some.ensures.hits in
-    record {
+    rw c.new.ensures record {
       reads = record {
         touches = (
           x.id,
@@ -25,7 +27,7 @@ returns-then-handles-self g c =
           omega (arith, c.handles-handles.ensures, c.if-handles-self.true),
           refl,
         );
-        seen = refl;
+        seen = tt;
       };
     }
 
@@ -102,7 +104,13 @@ returns-then-handles-gt0 g c =
           rec = rec_of x;
           hits = live;
           there = found m laws lawful (holding s) k c.in-Some.slot led x there;
-          made = (c.value.result, c.look-seen.ensures, c.value.ensures);
+          made = (
+            refl,
+            subst (λ o. IsSomeAnd o (λ (r : Rec g.row.K.Denot g.row.V.Denot g.row.P.Denot). r.kept.value ≡ x.kept.value))
+                (sym (ap (state_of s).records c.id-id.ensures
+                ∙ found m laws lawful (holding s) k c.in-Some.slot led x there))
+                refl,
+          );
         };
       };
     }
@@ -180,7 +188,13 @@ returns g c =
           rec = rec_of x;
           hits = live;
           there = found m laws lawful (holding s) k c.in-Some.slot led x there;
-          made = (c.value.result, c.look-seen.ensures, c.value.ensures);
+          made = (
+            refl,
+            subst (λ o. IsSomeAnd o (λ (r : Rec g.row.K.Denot g.row.V.Denot g.row.P.Denot). r.kept.value ≡ x.kept.value))
+                (sym (ap (state_of s).records c.id-id.ensures
+                ∙ found m laws lawful (holding s) k c.in-Some.slot led x there))
+                refl,
+          );
         };
       };
     }
