@@ -276,6 +276,14 @@ luffa_status luffa_contains(luffa_cache *cache, uint64_t now, const void *key, s
 luffa_status luffa_touch(luffa_cache *cache, uint64_t now, const void *key, size_t key_len);
 
 /*
+ * Sets the time from which on no lookup finds the key's record, or that it never expires if `expires` is 0. It counts
+ * as a use. The record is inserted again with its key, value, weight and priority, so the listener is told that the old
+ * one left, mostly as LUFFA_REPLACE, and a full shard may evict another one. Entries of the old one stay as they are.
+ * The value of luffa_insert_owned is freed once, after the new one has left. LUFFA_MISSING, or F7 to F10.
+ */
+luffa_status luffa_set_expires(luffa_cache *cache, uint64_t now, const void *key, size_t key_len, uint64_t expires);
+
+/*
  * Sets the capacity and evicts down to it. F7: some shards may still hold more than their share. Two resizes at the
  * same time may leave some shards with a share of the one and some with a share of the other.
  */

@@ -9,7 +9,7 @@ ghost use Rattle.foyer_core.specs.Cores.{core_of, meaning_of_core};
 ghost use Rattle.luffapricot_c.specs.Opening.{IsOpened, refused_with};
 ghost use Rattle.luffapricot_c.specs.Calls.{FindsKey, GetsEntry, Inserts, InsertsBytes, InsertsEntry, RemovesEntry, TouchesKey};
 
-use crate::hold::{Entry, Gone, Held, Hold};
+use crate::hold::{Gone, Hold};
 use crate::key::{Key, copied};
 use crate::record::LuffaRecord;
 use crate::terms::{LuffaTerms, plain_properties};
@@ -28,7 +28,7 @@ mod holds;
 mod reads;
 mod walks;
 
-use holds::{answer, forget_left, hold};
+use holds::{answer, forget_left, hold, hold_named};
 
 type Core = CacheCore<
     AnyEviction,
@@ -107,28 +107,27 @@ impl ByteCache {
     ) -> Result<()>
         ensures { Inserts now hash key.now bytes.now 0 weight (plain (expiry_of expires)) result self.old self.new }
     {
+        let key = Key::new(self.alloc, hash, key)?;
         let copy = copied(self.alloc, bytes)?;
         let value = Value {
             bytes: copy,
             weight,
             owner: 0,
         };
-        self.put(now, hash, key, value, plain_properties(expires))
+        self.put(now, key, value, plain_properties(expires))
     }
 
-    // Inserts a record of this value, and holds no handle to it.
+    // Inserts a record, and holds no handle to it.
     #[inline(always)]
     fn put(
         &mut self,
         now: u64,
-        hash: u64,
-        key: &[u8],
+        key: Key,
         value: Value,
         properties: CacheProperties,
     ) -> Result<()>
-        ensures { Inserts now hash key.now (value.bytes).items value.owner value.weight properties result self.old self.new }
+        ensures { Inserts now key.hash (key.bytes).items (value.bytes).items value.owner value.weight properties result self.old self.new }
     {
-        let key = Key::new(self.alloc, hash, key)?;
         let put = self
             .core
             .put_onto(now, key, value, properties, &mut self.left);
@@ -218,15 +217,7 @@ impl ByteCache {
                 let Some(record) = self.core.held(name) else {
                     unreachable!();
                 };
-                shown.show(
-                    record.key(),
-                    record.value(),
-                    record.weight(),
-                    record.properties(),
-                );
-                shown.number = self
-                    .holds
-                    .insert_reserved(Hold::new(Held::Entry(Entry::new(name))));
+                hold_named(&mut self.holds, name, record, shown);
                 Ok(true)
             }
             Ok(None) => Ok(false),

@@ -15,7 +15,9 @@ use crate::key::Key;
 use crate::record::LuffaRecord;
 use crate::status;
 use crate::value::Value;
-use foyer_core::{Answers, CacheProperties, CoreEntry, Foreign, Outcome, Waiting};
+use foyer_core::{
+    Answers, CacheProperties, CoreEntry, Foreign, Hold as Name, Outcome, RecordRef, Waiting,
+};
 use foyer_policy::Result;
 use slab::Slab;
 use std::mem;
@@ -35,6 +37,26 @@ pub(super) fn hold(holds: &mut Slab<Hold>, entry: Given, shown: &mut LuffaRecord
         entry.properties(),
     );
     shown.number = holds.insert_reserved(Hold::new(Held::Entry(named(entry))));
+}
+
+// Holds a handle by its name under a new number, for which there is room, and shows its record.
+#[inline(always)]
+pub(super) fn hold_named(
+    holds: &mut Slab<Hold>,
+    name: Name,
+    found: RecordRef<'_, Key, Value, CacheProperties>,
+    shown: &mut LuffaRecord,
+)
+    requires room { HasRoomFor holds.old 1 }
+    ensures { HoldsEntry (record { hash = name.hash; id = name.id }) found.kept shown.new holds.old holds.new }
+{
+    shown.show(
+        found.key(),
+        found.value(),
+        found.weight(),
+        found.properties(),
+    );
+    shown.number = holds.insert_reserved(Hold::new(Held::Entry(Entry::new(name))));
 }
 
 // An entry by the name of its record.
