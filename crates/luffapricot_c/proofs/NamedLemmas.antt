@@ -1,8 +1,7 @@
 -- Records that are named.
-use Rattle.std.proofs.Common.{◌≡◌, ◌∙◌, ◌+◌, ℕ, List, Option, Some, None, Result, Ok, Err, ap, refl, subst, sym}
+use Rattle.std.proofs.Common.{◌≡◌, ◌∙◌, ◌+◌, ℕ, List, Option, Some, None, Result, Ok, Err, ap, refl, subst, sym, true}
 use Rattle.std.specs.Prelude.{IsSomeAnd}
 use Rattle.std.proofs.lemmas.Map.{update_here}
-use Rattle.slab.specs.Slab.{Slab}
 use Rattle.foyer_policy.specs.declared.error.Reason.{Reason}
 use Rattle.foyer_policy.specs.declared.error.Reason.TheVariants.{Handles}
 use Rattle.foyer_core.specs.declared.hold.Hold.{Hold as Name}
@@ -15,12 +14,12 @@ use Rattle.foyer_core.specs.Steps.{Gets}
 use Rattle.foyer_core.specs.Values.{Answered, Held, Rec}
 use Rattle.foyer_core.proofs.CoreLaws.{now_here}
 use Rattle.luffapricot_c.specs.declared.cache.ByteCache.{ByteCache}
-use Rattle.luffapricot_c.specs.declared.hold.Hold.{Hold}
 use Rattle.luffapricot_c.specs.declared.key.Key.{Key}
 use Rattle.luffapricot_c.specs.declared.record.LuffaRecord.{LuffaRecord}
 use Rattle.luffapricot_c.specs.declared.value.Value.{Value}
-use Rattle.luffapricot_c.specs.Bytes.{IsKey}
-use Rattle.luffapricot_c.specs.Calls.{CoreGets, GetsHeld, HoldsEntry}
+use Rattle.luffapricot_c.specs.Bytes.{IsKey, IsValue}
+use Rattle.luffapricot_c.specs.Calls.{CoreGets, GetsHeld, HoldsEntry, Inserts}
+use Rattle.luffapricot_c.specs.Conditional.{InsertsAgain, SetsExpiryAt, expiring}
 use Rattle.luffapricot_c.specs.Frames.{Frames}
 use Rattle.luffapricot_c.specs.Named.{Named}
 
@@ -29,7 +28,8 @@ pub at_record : (P : Option (Rec Key Value Answered) → Type 0) (hash id : ℕ)
     (r : Option (Rec Key Value Answered)) → IsSomeAnd (shard_at (core_of c.core) hash) (λ s. r ≡ s.records id) → P r →
     IsSomeAnd (shard_at (core_of c.core) hash) (λ s. P (s.records id))
 at_record P hash id c r has p = go (shard_at (core_of c.core) hash) has where
-  go : (o : Option _) → IsSomeAnd o (λ s. r ≡ s.records id) → IsSomeAnd o (λ s. P (s.records id))
+  go : {View : Type 0} (o : Option (State Key Value Answered View)) → IsSomeAnd o (λ s. r ≡ s.records id) →
+      IsSomeAnd o (λ s. P (s.records id))
   go (Some s) h = subst P h p
   go None h = absurd h
 
@@ -121,3 +121,24 @@ module _ (now : ℕ) (k : Key) (name : Name) (old new : ByteCache) (at : CoreHol
             at.stepped.1 with_id;
         rest = rest;
       }
+
+-- an insert of what a record has, with another time at which it expires, inserts that record again
+pub inserts_again : (now expires : ℕ) (named : Option Named) (entry : Named) (name : Name) (x : Rec Key Value Answered)
+    (key : Key) (value : Value) (p : Answered) (old new : ByteCache) → Some entry ≡ named →
+    (name.hash ≡ entry.hash) × (name.id ≡ entry.id) →
+    IsSomeAnd (shard_at (core_of old.core) name.hash) (λ s. Some x ≡ s.records name.id) →
+    IsKey x.kept.key.hash x.kept.key.bytes.items key →
+    IsValue x.kept.value.bytes.items x.kept.value.owner x.kept.value.weight value → p ≡ expiring expires x.kept.properties →
+    Inserts {A = Unit {0}} now key.hash key.bytes.items value.bytes.items value.owner value.weight p (Ok tt) old new →
+    SetsExpiryAt now named expires (Ok true) old new
+inserts_again now expires named entry name x key value p old new is same has k v ps did =
+    let of_key = subst (λ (b : List ℕ). Inserts {A = Unit {0}} now x.kept.key.hash b value.bytes.items value.owner value.weight p (Ok tt) old new) k.1
+    (subst (λ (h : ℕ). Inserts {A = Unit {0}} now h key.bytes.items value.bytes.items value.owner value.weight p (Ok tt) old new) k.0 did) in
+    let of_bytes = subst (λ (b : List ℕ). Inserts {A = Unit {0}} now x.kept.key.hash x.kept.key.bytes.items b value.owner value.weight p (Ok tt) old new) v.0 of_key in
+    let of_owner = subst (λ (o : ℕ). Inserts {A = Unit {0}} now x.kept.key.hash x.kept.key.bytes.items x.kept.value.bytes.items o value.weight p (Ok tt) old new) v.1 of_bytes in
+    let of_weight = subst (λ (w : ℕ). Inserts {A = Unit {0}} now x.kept.key.hash x.kept.key.bytes.items x.kept.value.bytes.items x.kept.value.owner w p (Ok tt) old new) v.2 of_owner in
+    let of_all = subst (λ (q : Answered). Inserts {A = Unit {0}} now x.kept.key.hash x.kept.key.bytes.items x.kept.value.bytes.items x.kept.value.owner x.kept.value.weight q (Ok tt) old new) ps of_weight in
+    let at_hash = subst (λ (h : ℕ). IsSomeAnd (shard_at (core_of old.core) h) (λ s. Some x ≡ s.records name.id)) same.0 has in
+    let at_id = subst (λ (i : ℕ). IsSomeAnd (shard_at (core_of old.core) entry.hash) (λ s. Some x ≡ s.records i)) same.1 at_hash in
+    subst (λ (n : Option Named). SetsExpiryAt now n expires (Ok true) old new) is
+    (at_record (λ o. InsertsAgain now expires o (Ok true) old new) entry.hash entry.id old (Some x) at_id of_all)

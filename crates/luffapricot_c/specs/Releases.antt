@@ -5,9 +5,9 @@ use Rattle.foyer_policy.specs.declared.error.Reason.{Reason}
 use Rattle.foyer_policy.specs.declared.error.Reason.TheVariants.{NoMemory}
 use Rattle.foyer_policy.specs.declared.types.Event.{Event}
 use Rattle.foyer_policy.specs.declared.types.Event.TheVariants.{Clear, Evict, Remove, Replace}
-use Rattle.foyer_core.specs.Core.{AtShard, shard_at}
+use Rattle.foyer_core.specs.Core.{AtShard, Core, shard_at}
 use Rattle.foyer_core.specs.Cores.{core_of, meaning_of_core}
-use Rattle.foyer_core.specs.State.{handles_in}
+use Rattle.foyer_core.specs.State.{Meaning, handles_in}
 use Rattle.foyer_core.specs.Steps.{GivesBack}
 use Rattle.foyer_core.specs.Values.{Answered, Gone as GoneOf, Rec}
 use Rattle.luffapricot_c.specs.declared.cache.ByteCache.{ByteCache}
@@ -37,20 +37,19 @@ abbrev pub last_of : Bool → Option (Event × GoneOf Key Value Answered) → Op
 last_of has_listener leave = if has_listener then option_map (λ gone. record { held = Gone gone }) leave else None
 
 -- the record that is named has a handle in its shard
-abbrev pub HasHandle : Named → ByteCache → Type 0
-HasHandle named c = IsSomeAnd (shard_at (core_of c.core) named.hash) (λ s. 0 < handles_in s named.id)
+abbrev pub HasHandle : {View S W A : Type 0} → Named → Core Key Value Answered View S W A → Type 0
+HasHandle named core = IsSomeAnd (shard_at core named.hash) (λ s. 0 < handles_in s named.id)
 
 -- a handle of the record that is named goes back to the core, and if it has none, nothing changes
-pub record EndsNamed (named : Named) (leave : Option (Event × GoneOf Key Value Answered)) (old new : ByteCache) : Type 0
-  where
-    pub owned : HasHandle named old → AtShard (λ s t. GivesBack (meaning_of_core old.core) s named.id leave t) named.hash
-        (core_of old.core) (core_of new.core)
-    pub foreign : (HasHandle named old → ⊥) → (leave ≡ None) × (core_of new.core ≡ core_of old.core)
+pub record EndsNamed {View C S W A : Type 0} (m : Meaning Key Answered View C) (named : Named)
+    (leave : Option (Event × GoneOf Key Value Answered)) (old new : Core Key Value Answered View S W A) : Type 0 where
+  pub owned : HasHandle named old → AtShard (λ s t. GivesBack m s named.id leave t) named.hash old new
+  pub foreign : (HasHandle named old → ⊥) → (leave ≡ None) × (new ≡ old)
 
 -- an entry's handle goes back to the core, with status 104 if its number still names something
 pub record ReleasesEntry (named : Named) (number status : ℕ) (old new : ByteCache) : Type 0 where
   pub leave : Option (Event × GoneOf Key Value Answered)
-  pub ends : EndsNamed named leave old new
+  pub ends : EndsNamed (meaning_of_core old.core) named leave (core_of old.core) (core_of new.core)
   pub names : Updates old.holds new.holds number (last_of old.has_listener leave)
   pub status_is : status ≡ (if is_some (last_of old.has_listener leave) then 104 else 0)
 

@@ -119,13 +119,7 @@ impl ByteCache {
 
     // Inserts a record, and holds no handle to it.
     #[inline(always)]
-    fn put(
-        &mut self,
-        now: u64,
-        key: Key,
-        value: Value,
-        properties: CacheProperties,
-    ) -> Result<()>
+    fn put(&mut self, now: u64, key: Key, value: Value, properties: CacheProperties) -> Result<()>
         ensures { Inserts now key.hash (key.bytes).items (value.bytes).items value.owner value.weight properties result self.old self.new }
     {
         let put = self
@@ -217,7 +211,7 @@ impl ByteCache {
                 let Some(record) = self.core.held(name) else {
                     unreachable!();
                 };
-                hold_named(&mut self.holds, name, record, shown);
+                hold_named(&mut self.holds, name, &record, shown);
                 Ok(true)
             }
             Ok(None) => Ok(false),

@@ -1,7 +1,7 @@
 //! How a record is inserted, and how it was.
 
 ghost use Rattle.std.specs.Prelude.{◌≡◌};
-ghost use Rattle.luffapricot_c.specs.Bytes.{expiry_flag, expiry_of, flags_of, hint_flag, hinted, phantom_flag, plain, properties_of};
+ghost use Rattle.luffapricot_c.specs.Bytes.{expiry_flag, expiry_of, flags_of, hint_flag, phantom_flag, plain, properties_of};
 
 use foyer_core::CacheProperties;
 use foyer_policy::{Hint, Properties};
@@ -63,7 +63,9 @@ pub(crate) fn plain_properties(expires: u64) -> CacheProperties
 pub(crate) fn flags(properties: &CacheProperties) -> u32
     ensures { result ≡ flags_of properties.now }
 {
-    expiry_flag(properties.expiry()) | hint_flag(properties.hint()) | phantom_flag(properties.phantom())
+    expiry_flag(properties.expiry())
+        | hint_flag(properties.hint())
+        | phantom_flag(properties.phantom())
 }
 
 #[inline(always)]

@@ -5,8 +5,8 @@ ghost use Rattle.foyer_policy.specs.declared.error.Reason.TheVariants.{NoMemory}
 ghost use Rattle.slab.specs.Slab.{get};
 ghost use Rattle.luffapricot_c.specs.Conditional.{FitsIn, InsertsIfFits, RemovesThis, ReplacesIf, SetsExpiryAt, StillHas, entry_at, seen_at};
 
-use super::holds::forget_left;
 use super::ByteCache;
+use super::holds::forget_left;
 use crate::hold::{Entry, Held, Hold};
 use crate::key::Key;
 use crate::record::LuffaRecord;

@@ -4,8 +4,8 @@ ghost use Rattle.luffapricot_c.specs.Calls.{IfTaken};
 ghost use Rattle.luffapricot_c.specs.Fetches.{Cancels, CompletesOr, Fetches};
 ghost use Rattle.luffapricot_c.specs.Statuses.{told_of};
 
-use super::holds::{answer, hold, keep};
 use super::ByteCache;
+use super::holds::{answer, hold, keep};
 use crate::fetches::LuffaFetch;
 use crate::hold::{Held, Hold};
 use crate::key::copied;

@@ -1,15 +1,15 @@
 //! What C holds of a cache.
 
-ghost use Rattle.std.specs.Prelude.{◌≡◌, [], if◌then◌else◌, is_some, reverse};
+ghost use Rattle.std.specs.Prelude.{◌≡◌, [], if◌then◌else◌, is_some, option_copied, reverse};
 ghost use Rattle.slab.specs.Slab.{HasRoomFor, get};
 ghost use Rattle.luffapricot_c.specs.Calls.{HoldsEntry};
 ghost use Rattle.luffapricot_c.specs.Holds.{given, given_all, given_each, settled};
-ghost use Rattle.foyer_core.specs.Cores.{fetches_of};
+ghost use Rattle.foyer_core.specs.Cores.{core_of, fetches_of, meaning_of_core};
 ghost use Rattle.luffapricot_c.specs.Named.{named_of};
 ghost use Rattle.luffapricot_c.specs.Releases.{EndsNamed, HeldAnswers, NumberAnswers, Releases, ShowsLeft, TakesLeft, left_at};
 ghost use Rattle.luffapricot_c.specs.declared.hold.Held.TheVariants.{Entry as EntryHeld};
 
-use super::ByteCache;
+use super::{ByteCache, Core};
 use crate::hold::{Entry, Gone, Held, Hold};
 use crate::key::Key;
 use crate::record::LuffaRecord;
@@ -44,11 +44,11 @@ pub(super) fn hold(holds: &mut Slab<Hold>, entry: Given, shown: &mut LuffaRecord
 pub(super) fn hold_named(
     holds: &mut Slab<Hold>,
     name: Name,
-    found: RecordRef<'_, Key, Value, CacheProperties>,
+    found: &RecordRef<'_, Key, Value, CacheProperties>,
     shown: &mut LuffaRecord,
 )
     requires room { HasRoomFor holds.old 1 }
-    ensures { HoldsEntry (record { hash = name.hash; id = name.id }) found.kept shown.new holds.old holds.new }
+    ensures { HoldsEntry (record { hash = name.hash; id = name.id }) found.now.kept shown.new holds.old holds.new }
 {
     shown.show(
         found.key(),
@@ -65,6 +65,18 @@ fn named(entry: Given) -> Entry
     ensures { result ≡ named_of entry }
 {
     Entry::new(entry.into_hold())
+}
+
+// Gives an entry's handle back, and returns what left with it.
+#[inline(always)]
+fn end(core: &mut Core, entry: &Entry) -> Option<Gone>
+    ensures ends { EndsNamed (meaning_of_core core.old) entry.now result (core_of core.old) (core_of core.new) }
+    ensures fetches { fetches_of core.new ≡ fetches_of core.old }
+{
+    match core.unhold(entry.name()) {
+        Ok(leave) => leave,
+        Err(Foreign) => None,
+    }
 }
 
 // Gives each who waited what there is for it.
@@ -110,6 +122,17 @@ fn settle(holds: &mut Slab<Hold>, number: usize, held: Held)
         *hold = settled;
     } else {
         drop(settled);
+    }
+}
+
+// A record that left, by its place among those that a number names.
+fn left_in(holds: &Slab<Hold>, number: usize, index: usize) -> Option<&Gone>
+    ensures { option_copied result ≡ left_at (get holds.now number) index }
+{
+    match holds.get(number)?.held() {
+        Held::Gone(gone) => Some(gone),
+        Held::Left(left) => left.get(index),
+        _ => None,
     }
 }
 
@@ -165,19 +188,6 @@ impl ByteCache {
         status::OK
     }
 
-    // Gives an entry's handle back, and returns what left with it.
-    #[inline(always)]
-    fn end(&mut self, entry: &Entry) -> Option<Gone>
-        ensures ends { EndsNamed entry.now result self.old self.new }
-        ensures rest { self.new ≡ record self.old { core = self.new.core } }
-        ensures fetches { fetches_of self.new.core ≡ fetches_of self.old.core }
-    {
-        match self.core.unhold(entry.name()) {
-            Ok(leave) => leave,
-            Err(Foreign) => None,
-        }
-    }
-
     /// Ends what a number names. A handle goes back to the core.
     #[inline(always)]
     pub(crate) fn release(&mut self, number: usize) -> u32
@@ -188,7 +198,7 @@ impl ByteCache {
         };
         match hold.into_held() {
             Held::Entry(entry) => {
-                let leave = self.end(&entry);
+                let leave = end(&mut self.core, &entry);
                 if !self.has_listener {
                     return status::OK;
                 }
@@ -239,22 +249,12 @@ impl ByteCache {
         ensures found { result ≡ is_some (left_at (get self.now.holds number) index) }
         ensures shown { ShowsLeft (left_at (get self.now.holds number) index) shown.new }
     {
-        let Some(hold) = self.holds.get(number) else {
-            return false;
-        };
-        match hold.held() {
-            Held::Gone(gone) => {
+        match left_in(&self.holds, number, index) {
+            Some(gone) => {
                 shown.show_gone(gone);
                 true
             }
-            Held::Left(left) => match left.get(index) {
-                Some(gone) => {
-                    shown.show_gone(gone);
-                    true
-                }
-                None => false,
-            },
-            _ => false,
+            None => false,
         }
     }
 }
