@@ -56,8 +56,8 @@ static luffa_status add(uint64_t key, size_t weight, uint32_t flags, uint64_t ex
 }
 
 static bool shows(const luffa_entry *entry, size_t weight, uint32_t flags, uint64_t expires) {
-    return entry->weight == weight && entry->flags == flags && entry->expires == expires &&
-           entry->value_len == LONG && memcmp(entry->value, entry->key, LONG) == 0;
+    return entry->weight == weight && entry->flags == flags && entry->expires == expires && entry->value_len == LONG &&
+           memcmp(entry->value, entry->key, LONG) == 0;
 }
 
 static void one_record(uint32_t policy, uint64_t time) {

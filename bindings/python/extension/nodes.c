@@ -164,8 +164,8 @@ static uint64_t end_of(uint64_t now, uint64_t ttl) {
     return ttl == 0 ? 0 : ttl > UINT64_MAX - now ? UINT64_MAX : now + ttl;
 }
 
-/* Gives the record of a node that a lookup finds another time to live, by an insert. Returns whether there is one, or -1
- * and an exception. */
+/* Gives the record of a node that a lookup finds another time to live, by an insert. Returns whether there is one, or
+ * -1 and an exception. */
 int renew(cache_object *self, node *it, uint64_t now, uint64_t ttl) {
     it->records++;
     luffa_status status = luffa_set_expires(self->cache, now, &it, sizeof it, end_of(now, ttl));
