@@ -14,12 +14,14 @@ static void wake(struct slot *slot) {
     pthread_mutex_unlock(&slot->sleep);
 }
 
-/* Counts the entries of a value's record that the shard keeps for calls that asked for its key. The lock is held. */
-static void count_answers(struct slot *slot, struct owned *owned) {
+/* How many entries with a value the shard keeps for calls that asked for its key. The lock is held. */
+static size_t answers_with(struct slot *slot, const struct owned *owned) {
     luffa_record record;
+    size_t answers = 0;
     for (const struct asking *asking = slot->asking; asking != NULL; asking = asking->next)
-        if (luffa_shard_answered(&slot->shard, asking->number, &record) == LUFFA_OK && owned_by(&record) == owned)
-            owned->uses++;
+        answers +=
+            luffa_shard_answered(&slot->shard, asking->number, &record) == LUFFA_OK && owned_by(&record) == owned;
+    return answers;
 }
 
 /* Keeps the number of a call that asks for a missing key, until take_answer has its answer. The lock is held. */

@@ -203,7 +203,7 @@ luffa_status luffa_insert_owned(luffa_cache *cache, uint64_t now, const void *ke
                                            (uintptr_t)owned, terms, &record);
     if (status == LUFFA_OK) {
         start_owned(at.slot, owned);
-        count_answers(at.slot, owned);
+        owned->uses += answers_with(at.slot, owned);
     } else
         free(owned);
     return inserted(at.slot, status, &record, entry);
@@ -311,6 +311,34 @@ luffa_status luffa_touch(luffa_cache *cache, uint64_t now, const void *key, size
     luffa_status status = luffa_shard_touch(&at.slot->shard, (luffa_at){now}, at.hash, key, key_len);
     counted(at.slot, status);
     unlock(at.slot);
+    return status;
+}
+
+/* Inserts a record that is held again, with another time at which it expires: one more with its value leaves in the
+ * end. The lock is held. */
+static luffa_status insert_again(struct slot *slot, uint64_t now, const luffa_record *record, uint64_t expires) {
+    struct owned *owned = owned_by(record);
+    size_t answers = owned != NULL ? answers_with(slot, owned) : 0;
+    luffa_status status = luffa_shard_set_expires(&slot->shard, (luffa_at){now}, record->number, expires);
+    if (status != LUFFA_OK)
+        return status;
+    if (owned != NULL) {
+        owned->departures++;
+        owned->uses += answers_with(slot, owned) - answers;
+    }
+    wake(slot);
+    return status;
+}
+
+luffa_status luffa_set_expires(luffa_cache *cache, uint64_t now, const void *key, size_t key_len, uint64_t expires) {
+    luffa_record record;
+    struct place at = lock_of(cache, key, key_len);
+    luffa_status status = luffa_shard_get_entry(&at.slot->shard, (luffa_at){now}, at.hash, key, key_len, &record);
+    if (status == LUFFA_OK) {
+        status = insert_again(at.slot, now, &record, expires);
+        release(at.slot, record.number);
+    }
+    unlock_and_tell(at.slot);
     return status;
 }
 

@@ -133,8 +133,10 @@ typedef struct luffa_entry {
     const void *value;
     size_t value_len;
     size_t weight;
-    size_t number; /* private, as what follows */
-    uint32_t event;
+    uint64_t expires; /* from this time on no lookup finds the record; 0 without LUFFA_EXPIRES */
+    uint32_t flags;   /* LUFFA_EXPIRES, LUFFA_LOW_PRIORITY, LUFFA_PHANTOM, as it was inserted */
+    uint32_t event;   /* private, as what follows */
+    size_t number;
     uint64_t owner;
     void *shard;
 } luffa_entry;
@@ -272,6 +274,14 @@ luffa_status luffa_contains(luffa_cache *cache, uint64_t now, const void *key, s
 
 /* Counts as a use of the key's record, as a lookup does. LUFFA_MISSING, F7 or F9. */
 luffa_status luffa_touch(luffa_cache *cache, uint64_t now, const void *key, size_t key_len);
+
+/*
+ * Sets the time from which on no lookup finds the key's record, or that it never expires if `expires` is 0. It counts
+ * as a use. The record is inserted again with its key, value, weight and priority, so the listener is told that the old
+ * one left, mostly as LUFFA_REPLACE, and a full shard may evict another one. Entries of the old one stay as they are.
+ * The value of luffa_insert_owned is freed once, after the new one has left. LUFFA_MISSING, or F7 to F10.
+ */
+luffa_status luffa_set_expires(luffa_cache *cache, uint64_t now, const void *key, size_t key_len, uint64_t expires);
 
 /*
  * Sets the capacity and evicts down to it. F7: some shards may still hold more than their share. Two resizes at the

@@ -71,6 +71,7 @@ uint32_t luffa_shard_get_entry(luffa_shard *, luffa_at now, luffa_hashed hash, c
                                luffa_record *);
 uint32_t luffa_shard_remove(luffa_shard *, luffa_hashed hash, const uint8_t *key, size_t key_len, luffa_record *);
 uint32_t luffa_shard_remove_this(luffa_shard *, size_t number);
+uint32_t luffa_shard_set_expires(luffa_shard *, luffa_at now, size_t number, uint64_t expires);
 uint32_t luffa_shard_contains(luffa_shard *, luffa_at now, luffa_hashed hash, const uint8_t *key, size_t key_len);
 uint32_t luffa_shard_touch(luffa_shard *, luffa_at now, luffa_hashed hash, const uint8_t *key, size_t key_len);
 uint32_t luffa_shard_release(luffa_shard *, size_t number);

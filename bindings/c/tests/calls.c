@@ -178,6 +178,7 @@ static void entries(uint32_t policy) {
     luffa_release(&phantom);
     terms = (luffa_terms){.weight = 2, .expires = 5, .flags = LUFFA_EXPIRES | LUFFA_LOW_PRIORITY};
     CHECK(luffa_insert_entry(cache, 0, "t", 1, "terms", 5, &terms, &held) == LUFFA_OK && held.weight == 2);
+    CHECK(held.expires == 5 && held.flags == terms.flags);
     CHECK(luffa_get_entry(cache, 4, "t", 1, &again) == LUFFA_OK && again.value == held.value);
     CHECK(luffa_get_entry(cache, 5, "t", 1, &again) == LUFFA_MISSING);
     luffa_release(&again);

@@ -133,6 +133,8 @@ static void owned(luffa_cache *cache) {
             are_owned--;
         else
             held += entry != NULL;
+        status = luffa_set_expires(cache, 0, spelled(key), key_len, 9);
+        CHECK(is_fine(status) || status == LUFFA_MISSING);
     }
     walks(cache);
     for (size_t i = 0; i < held; i += 2)
@@ -165,6 +167,9 @@ static void conditional(luffa_cache *cache) {
         luffa_release(&next);
         status = luffa_insert_entry(cache, 0, spelled(key), key_len, &key, 8, &terms, NULL);
         CHECK(is_fine(status));
+        are_in[key] += status == LUFFA_OK;
+        status = luffa_set_expires(cache, 0, spelled(key), key_len, key);
+        CHECK(is_fine(status) || status == LUFFA_MISSING);
         are_in[key] += status == LUFFA_OK;
     }
 }

@@ -25,6 +25,8 @@ static void all_closed(luffa_shard *shard) {
     CHECK(luffa_shard_remove(shard, HASH, key, 1, &record) == LUFFA_NOT_OPEN);
     CHECK(luffa_shard_contains(shard, NOW, HASH, key, 1) == LUFFA_NOT_OPEN);
     CHECK(luffa_shard_touch(shard, NOW, HASH, key, 1) == LUFFA_NOT_OPEN);
+    CHECK(luffa_shard_remove_this(shard, 0) == LUFFA_NOT_OPEN);
+    CHECK(luffa_shard_set_expires(shard, NOW, 0, 1) == LUFFA_NOT_OPEN);
     CHECK(luffa_shard_release(shard, 0) == LUFFA_NOT_OPEN);
     CHECK(luffa_shard_resize(shard, NOW, 1) == LUFFA_NOT_OPEN);
     CHECK(luffa_shard_evict_all(shard, NOW) == LUFFA_NOT_OPEN);
@@ -52,6 +54,7 @@ static void wrong_numbers(luffa_shard *shard) {
     for (size_t i = 0; i < 4; i++) {
         CHECK(luffa_shard_release(shard, numbers[i]) == LUFFA_MISSING);
         CHECK(luffa_shard_answered(shard, numbers[i], &record) == LUFFA_MISSING);
+        CHECK(luffa_shard_set_expires(shard, NOW, numbers[i], 1) == LUFFA_MISSING);
         CHECK(luffa_shard_show_left(shard, numbers[i], 0, &record) == LUFFA_MISSING);
     }
     CHECK(luffa_shard_take_left(shard, &number, &count) == LUFFA_MISSING);
@@ -60,6 +63,7 @@ static void wrong_numbers(luffa_shard *shard) {
     CHECK(luffa_shard_answered(shard, number, &record) == LUFFA_WAIT &&
           luffa_shard_release(shard, number) == LUFFA_WAIT);
     CHECK(luffa_shard_show_left(shard, number, 0, &record) == LUFFA_MISSING);
+    CHECK(luffa_shard_set_expires(shard, NOW, number, 1) == LUFFA_MISSING);
     CHECK(luffa_shard_complete(shard, NOW, OTHER, other, 1, fetch.fetch, key, 1, &terms) == LUFFA_MISSING);
     CHECK(luffa_shard_complete(shard, NOW, HASH, key, 1, fetch.fetch + 1, key, 1, &terms) == LUFFA_MISSING);
     CHECK(luffa_shard_cancel(shard, HASH, key, 1, fetch.fetch + 1) == LUFFA_MISSING);

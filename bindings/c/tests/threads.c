@@ -197,9 +197,13 @@ static void *work(void *context) {
             wrong += status != LUFFA_OK && status != LUFFA_CANCELLED;
         } else if (call < 960) {
             luffa_remove(cache, &key, sizeof key);
-        } else if (call < 990) {
+        } else if (call < 980) {
             luffa_touch(cache, 0, &key, sizeof key);
             luffa_contains(cache, 0, &key, sizeof key);
+        } else if (call < 990) {
+            key = noise % 2 == 0 ? key : KEYS + noise % 300;
+            luffa_status status = luffa_set_expires(cache, 0, &key, sizeof key, noise);
+            wrong += status != LUFFA_OK && status != LUFFA_MISSING;
         } else if (call < 991) {
             uint32_t count = 0;
             if (noise % 2 == 0)

@@ -106,6 +106,7 @@ uint64_t hash_node(void *context, const void *key, size_t key_len);
 void hear(void *context, int event, const void *key, size_t key_len, const void *value, size_t value_len);
 PyObject *touch(cache_object *self, node *it, uint64_t now);
 int put(cache_object *self, node *it, PyObject *value, size_t weight, uint64_t now, uint64_t ttl);
+int renew(cache_object *self, node *it, uint64_t now, uint64_t ttl);
 int keep(cache_object *self, node *it, PyObject *value, size_t weight);
 fetch *fetch_of(const cache_object *self, const node *it);
 void end_fetch(cache_object *self, fetch *open, PyObject *value);

@@ -185,6 +185,30 @@ static PyObject *cache_insert(cache_object *self, PyObject *const *args, Py_ssiz
     Py_RETURN_NONE;
 }
 
+static PyObject *cache_touch(cache_object *self, PyObject *const *args, Py_ssize_t count, PyObject *words) {
+    static const char *const NAMES[] = {"key", "ttl"};
+    PyObject *found[2];
+    uint64_t now, ttl;
+    Py_hash_t hash;
+    node *it;
+    int is_found = 0;
+    if (read_words("touch", NAMES, 1, 2, args, count, words, found) < 0 || read_ttl(found[1], &ttl) < 0)
+        return NULL;
+    ttl = ttl == 0 ? self->ttl : ttl;
+    if (ttl > 0)
+        self->has_expiry = 1;
+    if (read_time(self, &now) < 0 || (hash = PyObject_Hash(found[0])) == -1 || find(self, found[0], hash, &it) < 0)
+        return NULL;
+    if (is_closed(self)) /* by the hash or the comparison of a key */
+        return NULL;
+    if (it != NULL) {
+        it->uses++;
+        is_found = renew(self, it, now, ttl);
+        done_with(self, it);
+    }
+    return is_found < 0 ? NULL : PyBool_FromLong(is_found);
+}
+
 static PyObject *cache_get_or_insert(cache_object *self, PyObject *const *args, Py_ssize_t count, PyObject *words) {
     static const char *const NAMES[] = {"key", "make"};
     PyObject *found[2];
@@ -244,6 +268,9 @@ PyMethodDef cache_methods[] = {
     {"insert", FAST(cache_insert),
      "insert($self, key, value, weight=None, ttl=None)\n--\n\nInserts a value with a weight and a time to live in "
      "seconds. None: as the cache has them; float('inf') never ends."},
+    {"touch", FAST(cache_touch),
+     "touch($self, key, ttl=None)\n--\n\nLets a time to live in seconds begin for a key, and returns whether a lookup "
+     "finds it. None: as the cache has it; float('inf') never ends. It counts as an insert, and as no hit or miss."},
     {"get_or_insert", FAST(cache_get_or_insert),
      "get_or_insert($self, key, make)\n--\n\nThe value of a key, which make(key) makes if it is missing. Of several "
      "threads one makes it and the others wait. If make raises an exception, its caller gets that, and those who wait "

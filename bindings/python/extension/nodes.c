@@ -159,11 +159,32 @@ void end_fetch(cache_object *self, fetch *open, PyObject *value) {
         PyThread_release_lock(open->ended);
 }
 
+/* When a time to live ends that begins now: 0 for never. */
+static uint64_t end_of(uint64_t now, uint64_t ttl) {
+    return ttl == 0 ? 0 : ttl > UINT64_MAX - now ? UINT64_MAX : now + ttl;
+}
+
+/* Gives the record of a node that a lookup finds another time to live, by an insert. Returns whether there is one, or
+ * -1 and an exception. */
+int renew(cache_object *self, node *it, uint64_t now, uint64_t ttl) {
+    it->records++;
+    luffa_status status = luffa_set_expires(self->cache, now, &it, sizeof it, end_of(now, ttl));
+    if (status == LUFFA_OK) {
+        link_last(self, it);
+        return 1;
+    }
+    if (--it->records == 0)
+        unlink_node(it);
+    if (status == LUFFA_MISSING)
+        return 0;
+    refused(self, status);
+    return -1;
+}
+
 /* Inserts a value at a time, which ends the fetch of its key. Returns 0, or -1 and an exception. */
 int put(cache_object *self, node *it, PyObject *value, size_t weight, uint64_t now, uint64_t ttl) {
-    uint64_t expires = ttl == 0 ? 0 : ttl > UINT64_MAX - now ? UINT64_MAX : now + ttl;
     it->records++;
-    luffa_status status = luffa_insert(self->cache, now, &it, sizeof it, NULL, 0, weight, expires);
+    luffa_status status = luffa_insert(self->cache, now, &it, sizeof it, NULL, 0, weight, end_of(now, ttl));
     if (status != LUFFA_OK) {
         if (--it->records == 0)
             unlink_node(it);

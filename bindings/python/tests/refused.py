@@ -45,6 +45,7 @@ CALLS: dict[str, Callable[[Cache], object]] = {
     "heavy": lambda cache: cache.insert(Item(-2), Item(0), weight=60),
     "replace": lambda cache: cache.__setitem__(Item(3), Item(0)),
     "get": lambda cache: cache.get(Item(3)),
+    "touch": lambda cache: [cache.touch(Item(number), 5) for number in range(50)],
     "make": lambda cache: cache.get_or_insert(Item(-3), lambda _: Item(0)),
     "setdefault": lambda cache: cache.setdefault(Item(-4), Item(0)),
     "pop": lambda cache: cache.pop(Item(3), None),
@@ -86,7 +87,7 @@ class Refused(unittest.TestCase):
                         self.assertIn(Item(-5), cache)
                         cache.close()
                     self.assertEqual(Item.count, 0, (policy, name, granted))
-        self.assertTrue(all(refusals[name] for name in ("insert", "replace", "two", "resize", "clear")), refusals)
+        self.assertTrue(all(refusals[name] for name in ("insert", "replace", "touch", "two", "resize", "clear")), refusals)
 
     def test_the_end(self) -> None:
         for policy in POLICIES:

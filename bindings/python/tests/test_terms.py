@@ -111,6 +111,43 @@ class Terms(unittest.TestCase):
             with self.assertRaises(ValueError):
                 call()
 
+    def test_touch(self) -> None:
+        for policy in POLICIES:
+            now = 0.0
+            cache = Cache(100, policy, ttl=10, timer=lambda: now)
+            for key in range(60):
+                cache.insert(key, str(key), weight=1)
+            self.assertEqual((cache.touch("?"), len(cache)), (False, 60))
+            now = 9
+            for key in range(0, 60, 2):
+                self.assertIs(cache.touch(key, ttl=[5, None, float("inf")][key % 3]), True)
+            for now in (9, 10, 13.5, 14, 18.5, 19, 1e9):
+                for key in range(60):
+                    end = 10 if key % 2 else [14, 19, float("inf")][key % 3]
+                    self.assertEqual(cache.peek(key), str(key) if now < end else None, (policy, key, now))
+            cache.expire()
+            self.assertEqual((len(cache), cache.stats().usage, cache.touch(1)), (10, 10, False))
+            cache.clear()
+            self.assertEqual((len(cache), list(cache), cache.touch(2)), (0, [], False))
+            cache.close()
+            with self.assertRaises(ValueError):
+                cache.touch(2)
+        cache = Cache(10, "fifo")
+        cache["a"], cache["b"] = 1, 2
+        self.assertEqual((cache.touch("a", 5), list(cache), cache.stats()), (True, ["b", "a"], (0, 0, 2, 2, 10)))
+        for wrong in (0, -1, float("nan")):
+            with self.assertRaises(ValueError):
+                cache.touch("a", wrong)
+        for policy in POLICIES:  # a full cache may lose another key, and no more than one
+            cache = Cache(50, policy)
+            values = [object() for _ in range(50)]
+            before = [sys.getrefcount(value) for value in values]
+            cache.update(enumerate(values))
+            found = sum(cache.touch(key, 5) for key in range(50))
+            self.assertTrue(found >= 48 and len(cache) == found, (policy, found, len(cache)))
+            cache.close()
+            self.assertEqual([sys.getrefcount(value) for value in values], before)
+
     def test_long_lives(self) -> None:
         for life in (2**50 / 1e9, 2**50 / 1e9 + 1, 2**53 / 1e9, 2**62 / 1e9, 9.2e9, 1.8e10):
             time_now = [1000.0]

@@ -4,22 +4,24 @@ use Rattle.std.specs.Prelude.{IsSomeAnd, slice_index_or}
 use Rattle.slab.specs.Slab.{Slab}
 use Rattle.foyer_policy.specs.declared.error.Reason.{Reason}
 use Rattle.foyer_core.specs.declared.outcome.InsertedOnto.{InsertedOnto}
+use Rattle.foyer_core.specs.declared.record.Data.{Data}
 use Rattle.foyer_core.specs.CallLaws.{AnswersIn}
-use Rattle.foyer_core.specs.Core.{shard_at}
+use Rattle.foyer_core.specs.declared.hold.Hold.{Hold as Name}
+use Rattle.foyer_core.specs.Core.{AtShard, shard_at}
 use Rattle.foyer_core.specs.Cores.{core_of, fetches_of, hashes_of, meaning_of_core}
-use Rattle.foyer_core.specs.NoEntry.{Peeks}
-use Rattle.foyer_core.specs.Steps.{Touches}
+use Rattle.foyer_core.specs.Holds.{Names}
+use Rattle.foyer_core.specs.NoEntry.{Peeks, Reads, Sees}
 use Rattle.foyer_core.proofs.CoreLaws.{now_here}
-use Rattle.foyer_core.specs.Values.{Answered, Held}
+use Rattle.foyer_core.specs.Values.{Answered, Rec}
 use Rattle.luffapricot_c.specs.declared.cache.ByteCache.{ByteCache}
 use Rattle.luffapricot_c.specs.declared.hold.Hold.{Hold}
 use Rattle.luffapricot_c.specs.declared.key.Key.{Key}
 use Rattle.luffapricot_c.specs.declared.record.LuffaRecord.{LuffaRecord}
 use Rattle.luffapricot_c.specs.declared.value.Value.{Value}
-use Rattle.luffapricot_c.specs.Calls.{AnswersWaiting, CoreInserts, HoldsEntry, IfTaken, InsertsBytes, CorePeeks, CoreReads, CoreTouches}
+use Rattle.luffapricot_c.specs.Calls.{AnswersWaiting, CoreInserts, HoldsEntry, IfTaken, InsertsBytes, CorePeeks, CoreReads}
 use Rattle.luffapricot_c.specs.Bytes.{CopiesValue}
 use Rattle.luffapricot_c.specs.Frames.{Frames}
-use Rattle.luffapricot_c.proofs.TouchLemmas.{touched_hits, touched_sees}
+use Rattle.luffapricot_c.specs.Named.{Named}
 
 -- what the core says of those who wait
 pub answers_waiting : (own : Key) (result : Result (InsertedOnto Key Value Answered ℕ) Reason) (old new : ByteCache) →
@@ -48,62 +50,79 @@ peek_seen now k v len out filled c copies = go (shard_at (core_of c.core) (hashe
   }
   go None h = absurd h
 
--- a touch that found nothing is a read that did
+-- a touch that names its record, by the core
+abbrev CoreNames : ℕ → Key → Result (Option Name) Reason → ByteCache → ByteCache → Type 0
+CoreNames now k answer old new = AtShard
+    (λ s t. Reads (meaning_of_core old.core) now s (hashes_of old.core k, k) (Names t (hashes_of old.core k)) answer t)
+    (hashes_of old.core k) (core_of old.core) (core_of new.core)
+
+-- one that found nothing is a read that did
 pub read_missing : {T : Type 0} (now : ℕ) (k : Key) (sees : Value → T → Type 0) (old new : ByteCache) →
-    CoreTouches now k (Ok false) old new → CoreReads now k sees (Ok None) old new
+    CoreNames now k (Ok None) old new → CoreReads now k sees (Ok None) old new
 read_missing now k sees old new at = record {
   before = at.before;
   after = at.after;
   there = at.there;
-  stepped = record { touches = at.stepped; seen = tt };
+  stepped = record { touches = at.stepped.touches; seen = tt };
   rest = at.rest;
 }
 
 -- and one that was refused
 pub read_refused : {T : Type 0} (now : ℕ) (k : Key) (sees : Value → T → Type 0) (reason : Reason) (old new : ByteCache) →
-    CoreTouches now k (Err reason) old new → CoreReads now k sees (Err reason) old new
+    CoreNames now k (Err reason) old new → CoreReads now k sees (Err reason) old new
 read_refused now k sees reason old new at = record {
   before = at.before;
   after = at.after;
   there = at.there;
-  stepped = record { touches = at.stepped; seen = tt };
+  stepped = record { touches = at.stepped.touches; seen = tt };
   rest = at.rest;
 }
 
--- the shard that was touched
-now_touched : (now : ℕ) (k : Key) (old new : ByteCache) (at : CoreTouches now k (Ok true) old new) →
-    shard_at (core_of new.core) (hashes_of new.core k) ≡ Some at.after
-now_touched now k old new at = now_here (core_of old.core) (core_of new.core)
-    (λ s t. Touches (meaning_of_core old.core) now s (hashes_of old.core k, k) (Ok true) t) (hashes_of old.core k) at
-    (hashes_of old.core k) refl
+-- what the core has under a name
+abbrev pub HasRecord : Name → Option (Rec Key Value Answered) → ByteCache → Type 0
+HasRecord name r c = IsSomeAnd (shard_at (core_of c.core) name.hash) (λ s. r ≡ s.records name.id)
 
--- a touch and a look that saw a value, which was copied, are a read
-pub read_seen : (now : ℕ) (k : Key) (v : Value) (len : ℕ) (out filled : List ℕ) (old new : ByteCache) →
-    CopiesValue out filled v len → CoreTouches now k (Ok true) old new →
-    CorePeeks now k (λ w seen. seen ≡ w) (Some v) new → CoreReads now k (CopiesValue out filled) (Ok (Some len)) old new
-read_seen now k v len out filled old new copies at looks =
-    let peeks : CorePeeks now k (CopiesValue out filled) (Some len) new = peek_seen now k v len out filled new copies looks in
-    record {
-      before = at.before;
-      after = at.after;
-      there = at.there;
-      stepped = record {
-        touches = at.stepped;
-        seen = touched_sees (meaning_of_core old.core) now at.before (hashes_of old.core k, k) at.after
-            (CopiesValue out filled) len at.stepped
-            (subst (λ o. IsSomeAnd o (λ s. Peeks (meaning_of_core new.core) now s (hashes_of new.core k, k)
-            (CopiesValue out filled) (Some len))) (now_touched now k old new at) peeks);
+module _ (now : ℕ) (k : Key) (name : Name) (old new : ByteCache) (at : CoreNames now k (Ok (Some name)) old new) where
+  seen : Sees (meaning_of_core old.core) now at.before (hashes_of old.core k, k) (Names at.after (hashes_of old.core k)) name
+  seen = at.stepped.seen
+
+  -- the record of the name, in the shard that was touched
+  named_is : (r : Option (Rec Key Value Answered)) → HasRecord name r new → r ≡ at.after.records name.id
+  named_is r has = subst (λ o. IsSomeAnd o (λ s. r ≡ s.records name.id))
+      (ap (shard_at (core_of new.core)) seen.made.0
+      ∙ now_here (core_of old.core) (core_of new.core)
+      (λ s t. Reads (meaning_of_core old.core) now s (hashes_of old.core k, k) (Names t (hashes_of old.core k))
+      (Ok (Some name)) t)
+      (hashes_of old.core k) at (hashes_of old.core k) refl)
+      has
+
+  -- it has the value that the key had
+  named_has : (r : Option (Rec Key Value Answered)) → HasRecord name r new → IsSomeAnd r (λ x. x.kept.value ≡ seen.rec.kept.value)
+  named_has r has = subst (λ o. IsSomeAnd o (λ x. x.kept.value ≡ seen.rec.kept.value)) (sym (named_is r has)) seen.made.1
+
+  -- a touch that names its record, whose value was copied, is a read
+  pub read_named : (x : Rec Key Value Answered) (len : ℕ) (out filled : List ℕ) → HasRecord name (Some x) new →
+      CopiesValue out filled x.kept.value len → CoreReads now k (CopiesValue out filled) (Ok (Some len)) old new
+  read_named x len out filled has copies = record {
+    before = at.before;
+    after = at.after;
+    there = at.there;
+    stepped = record {
+      touches = at.stepped.touches;
+      seen = record {
+        id = seen.id;
+        rec = seen.rec;
+        hits = seen.hits;
+        there = seen.there;
+        made = subst (λ v. CopiesValue out filled v len) (named_has (Some x) has) copies;
       };
-      rest = at.rest;
-    }
+    };
+    rest = at.rest;
+  }
 
--- a touch and a look that found nothing don't go together
-pub touched_is_there : {A : Type 0} (now : ℕ) (k : Key) (old new : ByteCache) → CoreTouches now k (Ok true) old new →
-    CorePeeks {T = Value} now k (λ w seen. seen ≡ w) None new → A
-touched_is_there {A} now k old new at looks = touched_hits (meaning_of_core old.core) {A = A} now at.before
-    (hashes_of old.core k, k) at.after (λ (w seen : Value). seen ≡ w) at.stepped
-    (subst (λ o. IsSomeAnd o (λ s. Peeks (meaning_of_core new.core) now s (hashes_of new.core k, k)
-    (λ (w seen : Value). seen ≡ w) None)) (now_touched now k old new at) looks)
+  -- there is such a record
+  pub named_there : {A : Type 0} → HasRecord name None new → A
+  named_there has = absurd (named_has None has)
 
 -- an insert with the core's answer
 pub inserts_bytes : (now hash : ℕ) (key bytes : List ℕ) (owner weight : ℕ) (p : Answered)
@@ -115,9 +134,9 @@ inserts_bytes now hash key bytes owner weight p (Err reason) old new i held =
     inr (i, record { held = held; fetches = i.answered; left = refl; listener = i.rest.listener })
 
 -- room for more changes nothing that is held
-pub holds_same : (entry : Held Key Value Answered) (shown : LuffaRecord) (old before new : Slab Hold) →
-    before.slots ≡ old.slots → HoldsEntry entry shown before new → HoldsEntry entry shown old new
-holds_same entry shown old before new same h = record {
+pub holds_same : (named : Named) (kept : Data Key Value Answered) (shown : LuffaRecord) (old before new : Slab Hold) →
+    before.slots ≡ old.slots → HoldsEntry named kept shown before new → HoldsEntry named kept shown old new
+holds_same named kept shown old before new same h = record {
   vacant = ap (λ slots. slice_index_or slots shown.number None) (sym same) ∙ h.vacant;
   held = record {
     changed = h.held.changed;

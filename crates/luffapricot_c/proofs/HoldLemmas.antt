@@ -9,11 +9,12 @@ use Rattle.luffapricot_c.specs.declared.hold.Hold.{Hold}
 use Rattle.luffapricot_c.specs.declared.key.Key.{Key}
 use Rattle.luffapricot_c.specs.declared.value.Value.{Value}
 use Rattle.luffapricot_c.specs.Holds.{given_all, given_each, settled}
+use Rattle.luffapricot_c.specs.Named.{named_of}
 
 -- the last one of those who wait gets the last entry first
 pub each_last : (ws : List (Waiter ℕ)) (w : Waiter ℕ) (es : List (EntryOf Key Value Answered))
     (e : EntryOf Key Value Answered) (holds : Slab Hold) → given_each (reverse (ws ++ w ∷ [])) (reverse (es ++ e ∷ [])) holds
-    ≡ given_each (reverse ws) (reverse es) (settled holds w.waiter (Entry e))
+    ≡ given_each (reverse ws) (reverse es) (settled holds w.waiter (Entry (named_of e)))
 each_last ws w es e holds = rw (reverse-append ws (w ∷ [])) (rw (reverse-append es (e ∷ [])) refl)
 
 -- nobody waits any more

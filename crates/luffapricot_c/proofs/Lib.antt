@@ -9,4 +9,4 @@ pub mod HoldLemmas
 pub mod CallLemmas
 pub mod OpenLemmas
 pub mod ReleaseLemmas
-pub mod TouchLemmas
+pub mod NamedLemmas

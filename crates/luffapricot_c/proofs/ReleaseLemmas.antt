@@ -3,15 +3,15 @@ use Rattle.std.proofs.Common.{◌≡◌, ◌∙◌, ℕ, Bool, true, false, Opti
 use Rattle.slab.specs.Slab.{Slab, Updates, get}
 use Rattle.foyer_policy.specs.declared.types.Event.{Event}
 use Rattle.foyer_core.specs.Cores.{core_of, meaning_of_core}
-use Rattle.foyer_core.specs.Dropping.{EndsEntry}
-use Rattle.foyer_core.specs.Values.{Answered, Gone as GoneOf, Held as EntryOf}
+use Rattle.foyer_core.specs.Values.{Answered, Gone as GoneOf}
 use Rattle.luffapricot_c.specs.declared.cache.ByteCache.{ByteCache}
 use Rattle.luffapricot_c.specs.declared.hold.Held.TheVariants.{Entry, Gone}
 use Rattle.luffapricot_c.specs.declared.hold.Hold.{Hold}
 use Rattle.luffapricot_c.specs.declared.key.Key.{Key}
 use Rattle.luffapricot_c.specs.declared.value.Value.{Value}
 use Rattle.luffapricot_c.specs.Frames.{Frames}
-use Rattle.luffapricot_c.specs.Releases.{Releases, ReleasesHeld, last_of}
+use Rattle.luffapricot_c.specs.Named.{Named}
+use Rattle.luffapricot_c.specs.Releases.{EndsNamed, Releases, ReleasesHeld, last_of}
 
 abbrev Last : Type 0
 Last = Event × GoneOf Key Value Answered
@@ -51,9 +51,9 @@ again old mid new number key was slot is out back = record {
 }
 
 -- a number that names an entry is released
-pub releases : (named : Option Hold) (hold : Hold) (entry : EntryOf Key Value Answered) (leave : Option Last)
+pub releases : (named : Option Hold) (hold : Hold) (entry : Named) (leave : Option Last)
     (number status : ℕ) (old new : ByteCache) → named ≡ Some hold → hold.held ≡ Entry entry →
-    EndsEntry (meaning_of_core old.core) entry leave (core_of old.core) (core_of new.core) →
+    EndsNamed (meaning_of_core old.core) entry leave (core_of old.core) (core_of new.core) →
     Names old.has_listener leave number status old.holds new.holds → new.left ≡ old.left →
     Frames (record old { holds = new.holds }) new → Releases named number status old new
 releases named hold entry leave number status old new is held ends names left rest =

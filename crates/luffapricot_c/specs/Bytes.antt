@@ -1,11 +1,13 @@
 -- Keys and values of bytes, and what C gives with them.
-use Rattle.std.specs.Prelude.{◌≡◌, ℕ, ◌==◌, ◌++◌, Bool, true, List, Option, None, Some, bit_and, drop, if◌then◌else◌, length, take}
+use Rattle.std.specs.Prelude.{◌≡◌, ℕ, ◌==◌, ◌++◌, Bool, true, List, Option, None, Some, bit_and, bit_or, drop, if◌then◌else◌, length, take, unwrap_or}
+use Rattle.foyer_policy.specs.declared.types.Hint.{Hint}
 use Rattle.foyer_policy.specs.declared.types.Hint.TheVariants.{Low, Normal}
+use Rattle.foyer_core.specs.declared.record.Data.{Data}
 use Rattle.foyer_core.specs.State.{coming_in}
-use Rattle.foyer_core.specs.Values.{Answered, Held}
-use Rattle.luffapricot_c.specs.declared.cache.LuffaTerms.{LuffaTerms}
+use Rattle.foyer_core.specs.Values.{Answered}
 use Rattle.luffapricot_c.specs.declared.key.Key.{Key}
 use Rattle.luffapricot_c.specs.declared.record.LuffaRecord.{LuffaRecord}
+use Rattle.luffapricot_c.specs.declared.terms.LuffaTerms.{LuffaTerms}
 use Rattle.luffapricot_c.specs.declared.value.Value.{Value}
 
 -- a key of these bytes, with the hash that the caller gives them
@@ -32,6 +34,23 @@ properties_of t = record {
   expires = if bit_and t.flags 1 == 0 then None else Some t.expires;
 }
 
+-- the flags of properties by their parts
+abbrev pub expiry_flag : Option ℕ → ℕ
+expiry_flag None = 0
+expiry_flag (Some _) = 1
+
+abbrev pub hint_flag : Hint → ℕ
+hint_flag Normal = 0
+hint_flag Low = 2
+
+abbrev pub phantom_flag : Option Bool → ℕ
+phantom_flag None = 0
+phantom_flag (Some phantom) = if phantom then 4 else 0
+
+-- the flags by which C would give properties
+abbrev pub flags_of : Answered → ℕ
+flags_of p = bit_or (bit_or (expiry_flag p.expires) (hint_flag p.hint)) (phantom_flag p.phantom)
+
 -- the properties with which a record comes in, by what the filter answered
 abbrev pub admitted_with : Answered → Bool → Answered
 admitted_with p admitted = coming_in (λ _. None) (λ q phantom. record q { phantom = Some phantom }) admitted p
@@ -44,8 +63,12 @@ copied_into bytes out = take (length out) bytes ++ drop (length bytes) out
 abbrev pub CopiesValue : List ℕ → List ℕ → Value → ℕ → Type 0
 CopiesValue out filled value len = (len ≡ length value.bytes.items) × (filled ≡ copied_into value.bytes.items out)
 
+-- a key and a value with a weight and properties are shown to C, with 0 for a record that never expires
+abbrev pub ShowsParts : LuffaRecord → Key → Value → ℕ → Answered → Type 0
+ShowsParts shown key value weight p = (shown.key_len ≡ length key.bytes.items)
+    × (shown.value_len ≡ length value.bytes.items) × (shown.weight ≡ weight) × (shown.owner ≡ value.owner)
+    × (shown.expires ≡ unwrap_or p.expires 0) × (shown.flags ≡ flags_of p)
+
 -- a record that is shown to C
-abbrev pub Shows : LuffaRecord → Held Key Value Answered → Type 0
-Shows shown entry = (shown.key_len ≡ length entry.kept.key.bytes.items)
-    × (shown.value_len ≡ length entry.kept.value.bytes.items) × (shown.weight ≡ entry.kept.weight)
-    × (shown.owner ≡ entry.kept.value.owner)
+abbrev pub Shows : LuffaRecord → Data Key Value Answered → Type 0
+Shows shown d = ShowsParts shown d.key d.value d.weight d.properties

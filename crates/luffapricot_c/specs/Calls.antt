@@ -8,6 +8,7 @@ use Rattle.foyer_policy.specs.declared.types.Event.TheVariants.{Remove}
 use Rattle.foyer_policy.specs.declared.types.Source.TheVariants.{Outer}
 use Rattle.foyer_core.specs.declared.outcome.InsertedOnto.{InsertedOnto}
 use Rattle.foyer_core.specs.declared.outcome.PutOnto.{PutOnto}
+use Rattle.foyer_core.specs.declared.record.Data.{Data}
 use Rattle.foyer_core.specs.CallLaws.{AnswersIn, IsNewEntry}
 use Rattle.foyer_core.specs.Core.{AtShard, InsertsWeighed, hit_in, shard_at}
 use Rattle.foyer_core.specs.CoreFetches.{open_in}
@@ -27,6 +28,7 @@ use Rattle.luffapricot_c.specs.declared.value.Value.{Value}
 use Rattle.luffapricot_c.specs.Holds.{given}
 use Rattle.luffapricot_c.specs.Bytes.{CopiesValue, IsKey, IsValue, Shows, admitted_with}
 use Rattle.luffapricot_c.specs.Frames.{Frames}
+use Rattle.luffapricot_c.specs.Named.{Named, named_of}
 
 -- A call on what an address holds, and its status: with nothing there, 107, and still nothing is there; else what is there
 -- makes a step.
@@ -74,11 +76,13 @@ CorePeeks now k sees answer c = IsSomeAnd (shard_at (core_of c.core) (hashes_of 
 abbrev pub IsToldOf : List (Event × Gone Key Value Answered) → ByteCache → ByteCache → Type 0
 IsToldOf leaves old new = new.left.items ≡ (if old.has_listener then old.left.items ++ leaves else [])
 
--- an entry is held by the number of a record that shows it, which named nothing before
-pub record HoldsEntry (entry : Held Key Value Answered) (shown : LuffaRecord) (old new : Slab Hold) : Type 0 where
-  pub vacant : get old shown.number ≡ None
-  pub held : Updates old new shown.number (Some (record { held = Entry entry }))
-  pub shows : Shows shown entry
+-- a handle is held, by the name of its record, under the number of a record that shows this data of it, which named
+-- nothing before
+pub record HoldsEntry (named : Named) (kept : Data Key Value Answered) (shown : LuffaRecord) (old new : Slab Hold) : Type 0
+  where
+    pub vacant : get old shown.number ≡ None
+    pub held : Updates old new shown.number (Some (record { held = Entry named }))
+    pub shows : Shows shown kept
 
 -- each who waits for the key gets an entry like this one, and its fetch is closed; after a refusal all go on waiting
 abbrev pub AnswersWaiting : Key → Result (InsertedOnto Key Value Answered ℕ) Reason → ByteCache → ByteCache → Type 0
@@ -120,13 +124,13 @@ PutAnswers own value (Ok put) old new = (entry : Held Key Value Answered)
     (fetches_of new.core)
 PutAnswers own value (Err _) old new = fetches_of new.core ≡ fetches_of old.core
 
--- the core's put of a record of these bytes, weight and properties
-pub record CorePuts (now hash : ℕ) (key bytes : List ℕ) (weight : ℕ) (p : Answered)
+-- the core's put of a record of these bytes, owner, weight and properties
+pub record CorePuts (now hash : ℕ) (key bytes : List ℕ) (owner weight : ℕ) (p : Answered)
     (result : Result (PutOnto Key Value Answered ℕ) Reason) (old new : ByteCache) : Type 0 where
   pub own : Key
   pub own_is : IsKey hash key own
   pub value : Value
-  pub value_is : IsValue bytes 0 weight value
+  pub value_is : IsValue bytes owner weight value
   pub leaves : List (Event × Gone Key Value Answered)
   pub puts : PutsWeighed (meaning_of_core old.core) now (λ w. w ≡ value.weight) (λ admitted. admitted ≡ true)
       (hashes_of old.core own) own value (admitted_with p)
@@ -137,19 +141,19 @@ pub record CorePuts (now hash : ℕ) (key bytes : List ℕ) (weight : ℕ) (p : 
   pub rest : Frames (record old { core = new.core; holds = new.holds; left = new.left }) new
 
 -- an insert of which no entry is wanted
-abbrev pub Inserts : {A : Type 0} → ℕ → ℕ → List ℕ → List ℕ → ℕ → Answered → Result A Reason → ByteCache → ByteCache →
-    Type 0
-Inserts now hash key bytes weight p (Ok _) old new = (put : PutOnto Key Value Answered ℕ)
-    × CorePuts now hash key bytes weight p (Ok put) old new × (new.holds ≡ given put.answers old.holds)
-Inserts now hash key bytes weight p (Err reason) old new = Lacks reason old new
-    ⊎ (CorePuts now hash key bytes weight p (Err reason) old new × Frames (record old { left = new.left }) new)
+abbrev pub Inserts : {A : Type 0} → ℕ → ℕ → List ℕ → List ℕ → ℕ → ℕ → Answered → Result A Reason → ByteCache →
+    ByteCache → Type 0
+Inserts now hash key bytes owner weight p (Ok _) old new = (put : PutOnto Key Value Answered ℕ)
+    × CorePuts now hash key bytes owner weight p (Ok put) old new × (new.holds ≡ given put.answers old.holds)
+Inserts now hash key bytes owner weight p (Err reason) old new = Lacks reason old new
+    ⊎ (CorePuts now hash key bytes owner weight p (Err reason) old new × Frames (record old { left = new.left }) new)
 
 -- an insert whose entry is held
 abbrev pub InsertsEntry : {A : Type 0} → ℕ → ℕ → List ℕ → List ℕ → ℕ → ℕ → Answered → Result A Reason → LuffaRecord →
     ByteCache → ByteCache → Type 0
 InsertsEntry now hash key bytes owner weight p (Ok _) shown old new = (made : InsertedOnto Key Value Answered ℕ)
     × (mid : Slab Hold) × CoreInserts now hash key bytes owner weight p (Ok made) old new
-    × HoldsEntry made.entry shown old.holds mid × (new.holds ≡ given made.answers mid)
+    × HoldsEntry (named_of made.entry) made.entry.kept shown old.holds mid × (new.holds ≡ given made.answers mid)
 InsertsEntry now hash key bytes owner weight p (Err reason) shown old new =
     InsertsBytes now hash key bytes owner weight p (Err reason) old new
 
@@ -193,7 +197,7 @@ pub record GetsHeld (now hash : ℕ) (key : List ℕ) (shown : LuffaRecord) (old
   pub own_is : IsKey hash key own
   pub entry : Held Key Value Answered
   pub gets : CoreGets now own (Ok (Some entry)) old new
-  pub holds : HoldsEntry entry shown old.holds new.holds
+  pub holds : HoldsEntry (record { hash = hashes_of old.core own; id = entry.id }) entry.kept shown old.holds new.holds
   pub rest : Frames (record old { holds = new.holds }) new
 
 -- a get that holds what it finds
@@ -209,7 +213,7 @@ pub record RemovesHeld (hash : ℕ) (key : List ℕ) (shown : LuffaRecord) (old 
   pub own_is : IsKey hash key own
   pub out : Held Key Value Answered × Gone Key Value Answered
   pub removes : CoreRemoves own (Ok (Some out)) old new
-  pub holds : HoldsEntry out.0 shown old.holds new.holds
+  pub holds : HoldsEntry (named_of out.0) out.0.kept shown old.holds new.holds
   pub told : IsToldOf ((Remove, out.1) ∷ []) old new
   pub rest : Frames (record old { holds = new.holds; left = new.left }) new
 

@@ -1,4 +1,4 @@
--- What the calls make of a cache of bytes that depend on the record that a key has.
+-- What the calls make of a cache of bytes that depend on the record that a key or a number has.
 use Rattle.std.specs.Prelude.{◌≡◌, ◌↔◌, ◌⊎◌, ℕ, Bool, true, false, List, ◌∷◌, [], Option, None, Some, Result, Ok, Err, IsSomeAnd, IsTrue, if◌then◌else◌, option_map}
 use Rattle.foyer_policy.specs.declared.error.Reason.{Reason}
 use Rattle.foyer_policy.specs.declared.types.Event.TheVariants.{Remove}
@@ -7,29 +7,30 @@ use Rattle.foyer_core.specs.Conditional.{Fits, IsCurrentIn}
 use Rattle.foyer_core.specs.Core.{AtShard, shard_at}
 use Rattle.foyer_core.specs.Cores.{core_of, hashes_of, meaning_of_core}
 use Rattle.foyer_core.specs.Pieces.{is_in}
-use Rattle.foyer_core.specs.Values.{Answered, Gone, Held as EntryOf}
+use Rattle.foyer_core.specs.Values.{Answered, Gone, Rec}
 use Rattle.luffapricot_c.specs.declared.cache.ByteCache.{ByteCache}
-use Rattle.luffapricot_c.specs.declared.cache.LuffaTerms.{LuffaTerms}
 use Rattle.luffapricot_c.specs.declared.hold.Held.{Held}
 use Rattle.luffapricot_c.specs.declared.hold.Held.TheVariants.{Entry, Gone as GoneHeld, Left, Listed, Refused, Waiting}
 use Rattle.luffapricot_c.specs.declared.hold.Hold.{Hold}
 use Rattle.luffapricot_c.specs.declared.key.Key.{Key}
 use Rattle.luffapricot_c.specs.declared.record.LuffaRecord.{LuffaRecord}
+use Rattle.luffapricot_c.specs.declared.terms.LuffaTerms.{LuffaTerms}
 use Rattle.luffapricot_c.specs.declared.value.Value.{Value}
-use Rattle.luffapricot_c.specs.Bytes.{IsKey, properties_of}
-use Rattle.luffapricot_c.specs.Calls.{GetsEntry, InsertsEntry, IsToldOf, Lacks}
+use Rattle.luffapricot_c.specs.Bytes.{IsKey, expiry_of, properties_of}
+use Rattle.luffapricot_c.specs.Calls.{GetsEntry, Inserts, InsertsEntry, IsToldOf, Lacks}
 use Rattle.luffapricot_c.specs.Frames.{Frames}
+use Rattle.luffapricot_c.specs.Named.{Named}
 
--- the entry that a number names
-abbrev pub entry_in : Held → Option (EntryOf Key Value Answered)
-entry_in (Entry entry) = Some entry
+-- the record that a number names by an entry
+abbrev pub entry_in : Held → Option Named
+entry_in (Entry named) = Some named
 entry_in Waiting = None
 entry_in (Refused _) = None
 entry_in (GoneHeld _) = None
 entry_in (Left _) = None
 entry_in (Listed _) = None
 
-abbrev pub entry_at : Option Hold → Option (EntryOf Key Value Answered)
+abbrev pub entry_at : Option Hold → Option Named
 entry_at None = None
 entry_at (Some hold) = entry_in hold.held
 
@@ -76,23 +77,46 @@ InsertsIfFits now hash key bytes owner terms (Err reason) shown old new = Lacks 
     × InsertsEntry {A = Unit {0}} now hash key bytes owner terms.weight (properties_of terms) (Err reason) shown old new)
 
 -- whether an entry's record is in the index of its shard
-abbrev pub StillIn : Bool → EntryOf Key Value Answered → ByteCache → Type 0
-StillIn found entry c = IsSomeAnd (shard_at (core_of c.core) entry.kept.hash) (λ s. found ≡ is_in (s.records entry.id))
+abbrev pub StillIn : Bool → Named → ByteCache → Type 0
+StillIn found named c = IsSomeAnd (shard_at (core_of c.core) named.hash) (λ s. found ≡ is_in (s.records named.id))
 
 -- an entry's record is removed
-pub record RemovesNamed (entry : EntryOf Key Value Answered) (old new : ByteCache) : Type 0 where
+pub record RemovesNamed (named : Named) (old new : ByteCache) : Type 0 where
   pub gone : Gone Key Value Answered
-  pub removes : AtShard (λ s t. TakesRecordOut (meaning_of_core old.core) s entry.id gone t) entry.kept.hash
+  pub removes : AtShard (λ s t. TakesRecordOut (meaning_of_core old.core) s named.id gone t) named.hash
       (core_of old.core) (core_of new.core)
   pub told : IsToldOf ((Remove, gone) ∷ []) old new
   pub rest : Frames (record old { left = new.left }) new
 
 -- an entry's record is removed if it is in the index, and else nothing changes
-abbrev pub RemovesThis : Option (EntryOf Key Value Answered) → Result Bool Reason → ByteCache → ByteCache → Type 0
+abbrev pub RemovesThis : Option Named → Result Bool Reason → ByteCache → ByteCache → Type 0
 RemovesThis None (Ok true) old new = ⊥
-RemovesThis (Some entry) (Ok true) old new = StillIn true entry old × RemovesNamed entry old new
+RemovesThis (Some named) (Ok true) old new = StillIn true named old × RemovesNamed named old new
 RemovesThis None (Ok false) old new = (core_of new.core ≡ core_of old.core) × Frames old new
-RemovesThis (Some entry) (Ok false) old new = StillIn false entry old × (core_of new.core ≡ core_of old.core)
+RemovesThis (Some named) (Ok false) old new = StillIn false named old × (core_of new.core ≡ core_of old.core)
     × Frames old new
 RemovesThis None (Err reason) old new = Lacks reason old new
-RemovesThis (Some entry) (Err reason) old new = Lacks reason old new
+RemovesThis (Some named) (Err reason) old new = Lacks reason old new
+
+-- the properties of a record that isn't phantom, with another time at which it expires
+abbrev pub expiring : ℕ → Answered → Answered
+expiring expires p = record { phantom = None; hint = p.hint; expires = expiry_of expires }
+
+-- A record, if there is one, is inserted again with another time at which it expires, and no handle is held to it.
+abbrev pub InsertsAgain : ℕ → ℕ → Option (Rec Key Value Answered) → Result Bool Reason → ByteCache → ByteCache → Type 0
+InsertsAgain now expires None (Ok true) old new = ⊥
+InsertsAgain now expires (Some r) (Ok true) old new =
+    Inserts {A = Unit {0}} now r.kept.key.hash r.kept.key.bytes.items r.kept.value.bytes.items r.kept.value.owner
+    r.kept.value.weight (expiring expires r.kept.properties) (Ok tt) old new
+InsertsAgain now expires None (Ok false) old new = new ≡ old
+InsertsAgain now expires (Some r) (Ok false) old new = ⊥
+InsertsAgain now expires None (Err reason) old new = ⊥
+InsertsAgain now expires (Some r) (Err reason) old new =
+    Inserts {A = Unit {0}} now r.kept.key.hash r.kept.key.bytes.items r.kept.value.bytes.items r.kept.value.owner
+    r.kept.value.weight (expiring expires r.kept.properties) (Err reason) old new
+
+-- so the record that is named, in its shard; where nothing is named, nothing changes
+abbrev pub SetsExpiryAt : ℕ → Option Named → ℕ → Result Bool Reason → ByteCache → ByteCache → Type 0
+SetsExpiryAt now None expires answer old new = (answer ≡ Ok false) × (new ≡ old)
+SetsExpiryAt now (Some named) expires answer old new = IsSomeAnd (shard_at (core_of old.core) named.hash)
+    (λ s. InsertsAgain now expires (s.records named.id) answer old new)

@@ -17,16 +17,17 @@ use Rattle.foyer_core.specs.State.{at_moment}
 use Rattle.foyer_core.specs.Values.{Answered}
 use Rattle.foyer_core.specs.Waited.{ending_of}
 use Rattle.luffapricot_c.specs.declared.cache.ByteCache.{ByteCache}
-use Rattle.luffapricot_c.specs.declared.cache.LuffaTerms.{LuffaTerms}
 use Rattle.luffapricot_c.specs.declared.fetches.LuffaFetch.{LuffaFetch}
 use Rattle.luffapricot_c.specs.declared.hold.Held.TheVariants.{Waiting}
 use Rattle.luffapricot_c.specs.declared.key.Key.{Key}
 use Rattle.luffapricot_c.specs.declared.record.LuffaRecord.{LuffaRecord}
+use Rattle.luffapricot_c.specs.declared.terms.LuffaTerms.{LuffaTerms}
 use Rattle.luffapricot_c.specs.declared.value.Value.{Value}
 use Rattle.luffapricot_c.specs.Bytes.{IsKey, IsValue, admitted_with, properties_of}
 use Rattle.luffapricot_c.specs.Calls.{HoldsEntry, IsToldOf, Lacks}
 use Rattle.luffapricot_c.specs.Frames.{Frames}
 use Rattle.luffapricot_c.specs.Holds.{given}
+use Rattle.luffapricot_c.specs.Named.{named_of}
 use Rattle.luffapricot_c.specs.Statuses.{open_status}
 
 -- 0 for a hit, 102 for who leads the fetch, 103 for who waits, or the number of the refusal
@@ -50,7 +51,8 @@ HoldsWait shown old new = (shown.number ≡ old.holds.vacant_key) × (get old.ho
 -- what is held of a look-up, and the numbers that C gets of a fetch
 abbrev pub HoldsLookup : Result (Lookup Key Value Answered (Unit {0})) Reason → LuffaRecord → LuffaFetch → ByteCache →
     ByteCache → Type 0
-HoldsLookup (Ok (Hit entry)) shown fetch old new = HoldsEntry entry shown old.holds new.holds
+HoldsLookup (Ok (Hit entry)) shown fetch old new =
+    HoldsEntry (named_of entry) entry.kept shown old.holds new.holds
 HoldsLookup (Ok (Lead id token _)) shown fetch old new = (fetch.fetch ≡ id) × (fetch.token ≡ token)
     × HoldsWait shown old new
 HoldsLookup (Ok (Wait token)) shown fetch old new = (fetch.token ≡ token) × HoldsWait shown old new

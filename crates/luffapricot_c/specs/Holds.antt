@@ -12,16 +12,17 @@ use Rattle.luffapricot_c.specs.declared.hold.Held.TheVariants.{Entry, Refused}
 use Rattle.luffapricot_c.specs.declared.hold.Hold.{Hold}
 use Rattle.luffapricot_c.specs.declared.key.Key.{Key}
 use Rattle.luffapricot_c.specs.declared.value.Value.{Value}
+use Rattle.luffapricot_c.specs.Named.{named_of}
 
 -- a number that names something names this instead
 abbrev pub settled : Slab Hold → ℕ → Held → Slab Hold
 settled holds number held = if is_some (get holds number) then with_value holds number (record { held = held }) else holds
 
--- who waits gets the entry at the same place, in this order
+-- who waits gets the name of the entry at the same place, in this order
 abbrev pub given_each : List (Waiter ℕ) → List (EntryOf Key Value Answered) → Slab Hold → Slab Hold
 given_each [] entries holds = holds
 given_each (w ∷ ws) [] holds = holds
-given_each (w ∷ ws) (e ∷ es) holds = given_each ws es (settled holds w.waiter (Entry e))
+given_each (w ∷ ws) (e ∷ es) holds = given_each ws es (settled holds w.waiter (Entry (named_of e)))
 
 -- who waits gets the one refusal, in this order
 abbrev pub given_all : List (Waiter ℕ) → ℕ → Slab Hold → Slab Hold

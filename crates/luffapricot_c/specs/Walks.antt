@@ -16,6 +16,7 @@ use Rattle.luffapricot_c.specs.declared.hold.Hold.{Hold}
 use Rattle.luffapricot_c.specs.declared.key.Key.{Key}
 use Rattle.luffapricot_c.specs.declared.record.LuffaRecord.{LuffaRecord}
 use Rattle.luffapricot_c.specs.declared.value.Value.{Value}
+use Rattle.luffapricot_c.specs.Bytes.{ShowsParts}
 use Rattle.luffapricot_c.specs.Calls.{IsToldOf, Lacks}
 use Rattle.luffapricot_c.specs.Frames.{Frames}
 
@@ -54,9 +55,8 @@ StillIs found piece c = IsSomeAnd (shard_at (core_of c.core) piece.kept.hash) (�
 
 -- a listed record is shown to C
 abbrev pub ShowsListed : LuffaRecord → Carried Key Value Answered → Type 0
-ShowsListed shown piece = (shown.key_len ≡ length piece.kept.key.bytes.items)
-    × (shown.value_len ≡ length piece.kept.value.bytes.items) × (shown.weight ≡ piece.kept.value.weight)
-    × (shown.owner ≡ piece.kept.value.owner)
+ShowsListed shown piece =
+    ShowsParts shown piece.kept.key piece.kept.value piece.kept.value.weight piece.kept.properties
 
 -- a listed record is shown, if there is one that is still resident
 abbrev pub ShowsIf : Bool → LuffaRecord → Carried Key Value Answered → Type 0

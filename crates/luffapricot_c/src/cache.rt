@@ -12,11 +12,12 @@ ghost use Rattle.luffapricot_c.specs.Calls.{FindsKey, GetsEntry, Inserts, Insert
 use crate::hold::{Gone, Hold};
 use crate::key::{Key, copied};
 use crate::record::LuffaRecord;
+use crate::terms::{LuffaTerms, plain_properties};
 use crate::value::{GivenWeight, Value};
 use foyer_core::{
     AdmitAll, CacheCore, CacheProperties, InsertedOnto, Limits, PutOnto, RawCacheConfig,
 };
-use foyer_policy::{AnyEviction, Event, EvictionConfig, Hint, ModHasher, Properties, Result};
+use foyer_policy::{AnyEviction, Event, EvictionConfig, ModHasher, Result};
 use slab::Slab;
 use std::alloc::Global;
 
@@ -27,7 +28,7 @@ mod holds;
 mod reads;
 mod walks;
 
-use holds::{answer, forget_left, hold};
+use holds::{answer, forget_left, hold, hold_named};
 
 type Core = CacheCore<
     AnyEviction,
@@ -43,24 +44,6 @@ type Core = CacheCore<
 
 type Made = InsertedOnto<Key, Value, CacheProperties, usize>;
 
-/// How a record is inserted.
-#[repr(C)]
-#[derive(Clone, Copy)]
-pub struct LuffaTerms {
-    /// What the record counts against the capacity.
-    pub weight: usize,
-    /// From this time on no lookup finds it, if `flags` say so.
-    pub expires: u64,
-    /// 1 for a record that expires, 2 for one of low priority, 4 for a phantom, and their sums.
-    pub flags: u32,
-}
-
-const EXPIRES: u32 = 1;
-
-const LOW: u32 = 2;
-
-const PHANTOM: u32 = 4;
-
 /// A cache of bytes by bytes, and what C holds of it.
 #[derive(Drop)]
 pub struct ByteCache {
@@ -73,31 +56,6 @@ pub struct ByteCache {
     left: Vec<Gone>,
     has_listener: bool,
     alloc: Global,
-}
-
-impl LuffaTerms {
-    fn properties(&self) -> CacheProperties
-        ensures { result ≡ properties_of self.now }
-    {
-        let expiry = if self.flags & EXPIRES != 0 {
-            Some(self.expires)
-        } else {
-            None
-        };
-        let hint = if self.flags & LOW != 0 {
-            Hint::Low
-        } else {
-            Hint::Normal
-        };
-        let properties = CacheProperties::default()
-            .with_expiry(expiry)
-            .with_hint(hint);
-        if self.flags & PHANTOM != 0 {
-            properties.with_phantom(true)
-        } else {
-            properties
-        }
-    }
 }
 
 impl ByteCache {
@@ -147,7 +105,7 @@ impl ByteCache {
         weight: usize,
         expires: u64,
     ) -> Result<()>
-        ensures { Inserts now hash key.now bytes.now weight (plain (expiry_of expires)) result self.old self.new }
+        ensures { Inserts now hash key.now bytes.now 0 weight (plain (expiry_of expires)) result self.old self.new }
     {
         let key = Key::new(self.alloc, hash, key)?;
         let copy = copied(self.alloc, bytes)?;
@@ -156,9 +114,17 @@ impl ByteCache {
             weight,
             owner: 0,
         };
+        self.put(now, key, value, plain_properties(expires))
+    }
+
+    // Inserts a record, and holds no handle to it.
+    #[inline(always)]
+    fn put(&mut self, now: u64, key: Key, value: Value, properties: CacheProperties) -> Result<()>
+        ensures { Inserts now key.hash (key.bytes).items (value.bytes).items value.owner value.weight properties result self.old self.new }
+    {
         let put = self
             .core
-            .put_onto(now, key, value, plain_properties(expires), &mut self.left);
+            .put_onto(now, key, value, properties, &mut self.left);
         forget_left(&mut self.left, self.has_listener);
         match put {
             Ok(
@@ -240,9 +206,12 @@ impl ByteCache {
     {
         self.holds.reserve(1)?;
         self.asked.set(hash, key)?;
-        match self.core.get(now, &self.asked) {
-            Ok(Some(entry)) => {
-                hold(&mut self.holds, entry, shown);
+        match self.core.hold(now, &self.asked) {
+            Ok(Some(name)) => {
+                let Some(record) = self.core.held(name) else {
+                    unreachable!();
+                };
+                hold_named(&mut self.holds, name, &record, shown);
                 Ok(true)
             }
             Ok(None) => Ok(false),
@@ -296,13 +265,4 @@ impl ByteCache {
     {
         self.core.entries()
     }
-}
-
-// The properties of a record that expires then, or never if that is 0.
-#[inline(always)]
-fn plain_properties(expires: u64) -> CacheProperties
-    ensures { result ≡ plain (expiry_of expires) }
-{
-    let expiry = if expires == 0 { None } else { Some(expires) };
-    CacheProperties::default().with_expiry(expiry)
 }

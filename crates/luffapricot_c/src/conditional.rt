@@ -1,12 +1,12 @@
-//! Calls that depend on the record that a key has.
+//! Calls that depend on the record that a key or a number has.
 
 ghost use Rattle.slab.specs.Slab.{get};
 ghost use Rattle.luffapricot_c.specs.Calls.{OnHeld};
-ghost use Rattle.luffapricot_c.specs.Conditional.{InsertsIfFits, RemovesThis, ReplacesIf, entry_at, seen_at};
+ghost use Rattle.luffapricot_c.specs.Conditional.{InsertsIfFits, RemovesThis, ReplacesIf, SetsExpiryAt, entry_at, seen_at};
 ghost use Rattle.luffapricot_c.specs.Statuses.{Tells, fits_of, found_of, told_of};
 
-use crate::cache::LuffaTerms;
 use crate::record::LuffaRecord;
+use crate::terms::LuffaTerms;
 use crate::{LuffaShard, status};
 use std::alloc::Global;
 
@@ -58,6 +58,28 @@ pub extern "C" fn luffa_shard_insert_if_fits(
         return status::NOT_OPEN;
     };
     let status = status::fits(cache.insert_if_fits(now, hash, key, value, owner, terms, shown));
+    *shard = LuffaShard::of(cache);
+    status
+}
+
+/// Inserts the record whose entry a number names again, with its key, value, weight and priority, and another time at
+/// which it expires (0: never). It replaces the record that its key has. 0, MISSING if the number names no record,
+/// NOT_OPEN, or 7 to 10 for F7 to F10.
+#[unsafe(no_mangle)]
+pub extern "C" fn luffa_shard_set_expires(
+    shard: &mut LuffaShard,
+    alloc: Global,
+    now: u64,
+    number: usize,
+    expires: u64,
+) -> u32
+    ensures { OnHeld (λ old status new. Tells found_of (λ answer. SetsExpiryAt now (entry_at (get old.holds number)) expires answer old new) status)
+        shard.old.address.held result shard.new.address.held }
+{
+    let Some(mut cache) = shard.take(alloc) else {
+        return status::NOT_OPEN;
+    };
+    let status = status::found(cache.set_expires(now, number, expires));
     *shard = LuffaShard::of(cache);
     status
 }

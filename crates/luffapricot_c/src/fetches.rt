@@ -7,8 +7,8 @@ ghost use Rattle.luffapricot_c.specs.Fetches.{Cancels, CompletesOr, Fetches};
 ghost use Rattle.luffapricot_c.specs.Releases.{NumberAnswers};
 ghost use Rattle.luffapricot_c.specs.Statuses.{Tells, found_of, told_of};
 
-use crate::cache::LuffaTerms;
 use crate::record::LuffaRecord;
+use crate::terms::LuffaTerms;
 use crate::{LuffaShard, status};
 use std::alloc::Global;
 
@@ -98,7 +98,7 @@ pub extern "C" fn luffa_shard_answered(
     number: usize,
     shown: &mut LuffaRecord,
 ) -> u32
-    ensures { OnHeld (λ old status new. NumberAnswers (get old.holds number) number status shown.new × (new ≡ old))
+    ensures { OnHeld (λ old status new. NumberAnswers (get old.holds number) number status shown.new old × (new ≡ old))
         shard.old.address.held result shard.new.address.held }
 {
     let Some(cache) = shard.take(alloc) else {

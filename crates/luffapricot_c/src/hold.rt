@@ -3,17 +3,46 @@
 ghost use Rattle.std.specs.Prelude.{◌≡◌};
 
 use crate::key::Key;
-use crate::record::LuffaRecord;
 use crate::value::Value;
-use foyer_core::{CacheProperties, CoreEntry, Leave, Piece};
-
-pub(crate) type Entry = CoreEntry<Key, Value, CacheProperties>;
+use foyer_core::{CacheProperties, Hold as Name, Leave, Piece};
+use std::marker::Model;
 
 pub(crate) type Gone = Leave<Key, Value, CacheProperties>;
 
 pub(crate) type Listed = Piece<Key, Value, CacheProperties>;
 
+/// A handle of a record, by the record's name. The core counts it, and it has no share of the record's data.
+#[derive(Drop)]
+pub(crate) struct Entry {
+    name: Name,
+}
+
+impl Model for Entry {
+    ghost use Rattle.luffapricot_c.specs.Named.{Named};
+
+    ghost Value = { Named };
+
+    ghost view = { λ e. record { hash = e.name.hash; id = e.name.id } };
+}
+
+impl Entry {
+    #[inline(always)]
+    pub(crate) fn new(name: Name) -> Entry
+        ensures { result ≡ record { hash = name.hash; id = name.id } }
+    {
+        Entry { name }
+    }
+
+    #[inline(always)]
+    pub(crate) fn name(&self) -> Name
+        ensures { (result.hash ≡ self.now.hash) × (result.id ≡ self.now.id) }
+    {
+        self.name
+    }
+}
+
 /// What a number names.
+#[derive(Drop)]
 pub(crate) enum Held {
     /// A handle of a record.
     Entry(Entry),
@@ -29,22 +58,10 @@ pub(crate) enum Held {
     Listed(Vec<Listed>),
 }
 
-/// What C holds by a number. If the cache ends first, a handle is discarded with it.
+/// What C holds by a number.
+#[derive(Drop)]
 pub(crate) struct Hold {
     held: Held,
-}
-
-impl Drop for Hold {
-    fn drop(self) {
-        let Hold { held } = self;
-        match held {
-            Held::Entry(entry) => entry.discard(),
-            Held::Gone(gone) => drop(gone),
-            Held::Left(left) => drop(left),
-            Held::Listed(listed) => drop(listed),
-            Held::Waiting | Held::Refused(_) => (),
-        }
-    }
 }
 
 impl Hold {

@@ -31,14 +31,15 @@ mod loose;
 mod policy;
 mod record;
 mod status;
+mod terms;
 mod value;
 mod walks;
 
 pub use bulk::LuffaLoad;
-pub use cache::LuffaTerms;
 pub use fetches::LuffaFetch;
 pub use policy::{LuffaPolicy, LuffaRatio};
 pub use record::LuffaRecord;
+pub use terms::LuffaTerms;
 
 /// What C holds of a cache. It begins as zeros, and only the calls below change it.
 #[repr(C)]
@@ -148,7 +149,7 @@ pub extern "C" fn luffa_shard_insert(
     weight: usize,
     expires: u64,
 ) -> u32
-    ensures { OnHeld (λ old status new. Tells done_of (λ answer. Inserts {A = Unit {0}} now hash key.now value.now weight (plain (expiry_of expires)) answer old new) status)
+    ensures { OnHeld (λ old status new. Tells done_of (λ answer. Inserts {A = Unit {0}} now hash key.now value.now 0 weight (plain (expiry_of expires)) answer old new) status)
         shard.old.address.held result shard.new.address.held }
 {
     let Some(mut cache) = shard.take(alloc) else {

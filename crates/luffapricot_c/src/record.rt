@@ -1,11 +1,16 @@
 //! Records as C reads them.
 
-ghost use Rattle.std.specs.Prelude.{◌≡◌, length, vec_len};
+ghost use Rattle.std.specs.Prelude.{◌≡◌};
+ghost use Rattle.luffapricot_c.specs.Bytes.{ShowsParts};
 ghost use Rattle.luffapricot_c.specs.Releases.{ShowsGone};
 ghost use Rattle.luffapricot_c.specs.Walks.{ShowsListed};
 
-use crate::hold::{Entry, Gone, Listed};
+use crate::hold::{Gone, Listed};
+use crate::key::Key;
 use crate::status;
+use crate::terms::flags;
+use crate::value::Value;
+use foyer_core::CacheProperties;
 use std::ptr;
 
 /// A record that is shown where it lies. The addresses are good for as long as the number is held.
@@ -17,8 +22,12 @@ pub struct LuffaRecord {
     pub value: *const u8,
     pub value_len: usize,
     pub weight: usize,
-    pub number: usize,
+    /// From this time on no lookup finds it, or 0 if it never expires.
+    pub expires: u64,
+    /// The flags by which it was inserted, as in `LuffaTerms`.
+    pub flags: u32,
     pub event: u32,
+    pub number: usize,
     pub owner: u64,
 }
 
@@ -32,22 +41,27 @@ fn address(bytes: &[u8]) -> *const u8 {
 }
 
 impl LuffaRecord {
-    /// Shows the record of a handle.
+    /// Shows a key and a value, with what comes with them.
     #[inline(always)]
-    pub(crate) fn show(&mut self, entry: &Entry)
-        ensures key_len { self.new.key_len ≡ length (entry.now.kept.key.bytes).items }
-        ensures value_len { self.new.value_len ≡ length (entry.now.kept.value.bytes).items }
-        ensures weight { self.new.weight ≡ entry.now.kept.weight }
-        ensures owner { self.new.owner ≡ entry.now.kept.value.owner }
+    pub(crate) fn show(
+        &mut self,
+        key: &Key,
+        value: &Value,
+        weight: usize,
+        properties: &CacheProperties,
+    )
+        ensures { ShowsParts self.new key.now value.now weight properties.now }
     {
-        let key = entry.key().bytes.as_slice();
-        let value = entry.value().bytes.as_slice();
-        self.key = address(key);
-        self.key_len = key.len();
-        self.value = address(value);
-        self.value_len = value.len();
-        self.weight = entry.weight();
-        self.owner = entry.value().owner;
+        let bytes = key.bytes.as_slice();
+        self.key = address(bytes);
+        self.key_len = bytes.len();
+        let bytes = value.bytes.as_slice();
+        self.value = address(bytes);
+        self.value_len = bytes.len();
+        self.weight = weight;
+        self.owner = value.owner;
+        self.expires = properties.expiry().unwrap_or(0);
+        self.flags = flags(properties);
     }
 
     /// Shows a record that left.
@@ -55,28 +69,15 @@ impl LuffaRecord {
         ensures { ShowsGone self.new gone.now }
     {
         let (event, left) = gone;
-        let key = left.key().bytes.as_slice();
-        let value = left.value().bytes.as_slice();
-        self.key = address(key);
-        self.key_len = key.len();
-        self.value = address(value);
-        self.value_len = value.len();
-        self.weight = left.weight();
+        self.show(left.key(), left.value(), left.weight(), left.properties());
         self.event = status::event(*event);
-        self.owner = left.value().owner;
     }
 
     /// Shows a record that was listed.
     pub(crate) fn show_listed(&mut self, listed: &Listed)
         ensures { ShowsListed self.new listed.now }
     {
-        let key = listed.key().bytes.as_slice();
-        let value = listed.value().bytes.as_slice();
-        self.key = address(key);
-        self.key_len = key.len();
-        self.value = address(value);
-        self.value_len = value.len();
-        self.weight = listed.value().weight;
-        self.owner = listed.value().owner;
+        let value = listed.value();
+        self.show(listed.key(), value, value.weight, listed.properties());
     }
 }

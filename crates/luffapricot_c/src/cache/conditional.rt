@@ -1,17 +1,17 @@
-//! Inserts and removals that depend on the record that a key has.
+//! Inserts and removals that depend on the record that a key or a number has.
 
 ghost use Rattle.std.specs.Prelude.{◌≡◌, IfErr, IfOk, option_copied};
 ghost use Rattle.foyer_policy.specs.declared.error.Reason.TheVariants.{NoMemory};
 ghost use Rattle.slab.specs.Slab.{get};
-ghost use Rattle.luffapricot_c.specs.Conditional.{FitsIn, InsertsIfFits, RemovesThis, ReplacesIf, StillHas, entry_at, seen_at};
+ghost use Rattle.luffapricot_c.specs.Conditional.{FitsIn, InsertsIfFits, RemovesThis, ReplacesIf, SetsExpiryAt, StillHas, entry_at, seen_at};
 
+use super::ByteCache;
 use super::holds::forget_left;
-use super::{ByteCache, LuffaTerms};
 use crate::hold::{Entry, Held, Hold};
 use crate::key::Key;
 use crate::record::LuffaRecord;
 use crate::status;
-use foyer_core::Hold as Name;
+use crate::terms::{LuffaTerms, plain_properties};
 use foyer_policy::{Event, Result};
 use slab::Slab;
 
@@ -30,7 +30,7 @@ fn seen(holds: &Slab<Hold>, number: usize) -> Option<u64>
     ensures { result ≡ seen_at (get holds.now number) }
 {
     match entry(holds, number) {
-        Some(entry) => Some(entry.id()),
+        Some(entry) => Some(entry.name().id),
         None => None,
     }
 }
@@ -106,6 +106,26 @@ impl ByteCache {
         Ok(self.core.would_fit(&own, weight))
     }
 
+    /// Inserts the record whose entry a number names again, with another time at which it expires (0: never), and holds
+    /// no handle to it. Whether there is one.
+    pub(crate) fn set_expires(&mut self, now: u64, number: usize, expires: u64) -> Result<bool>
+        ensures { SetsExpiryAt now (entry_at (get self.old.holds number)) expires result self.old self.new }
+    {
+        let Some(entry) = entry(&self.holds, number) else {
+            return Ok(false);
+        };
+        let Some(record) = self.core.held(entry.name()) else {
+            return Ok(false);
+        };
+        let key = Key::new(self.alloc, record.key().hash, record.key().bytes.as_slice())?;
+        let value = record.value().copied(self.alloc)?;
+        let properties = plain_properties(expires).with_hint(record.properties().hint());
+        match self.put(now, key, value, properties) {
+            Ok(()) => Ok(true),
+            Err(error) => Err(error),
+        }
+    }
+
     /// Removes the record whose entry a number names, if its key still has it. Whether it had.
     pub(crate) fn remove_this(&mut self, number: usize) -> Result<bool>
         ensures { RemovesThis (entry_at (get self.old.holds number)) result self.old self.new }
@@ -114,12 +134,7 @@ impl ByteCache {
         let Some(entry) = entry(&self.holds, number) else {
             return Ok(false);
         };
-        let name = Name {
-            hash: entry.hash(),
-            id: entry.id(),
-            slot: 0,
-        };
-        match self.core.remove_this(name) {
+        match self.core.remove_this(entry.name()) {
             Some(left) => {
                 self.left.push_reserved((Event::Remove, left));
                 forget_left(&mut self.left, self.has_listener);

@@ -4,13 +4,14 @@ ghost use Rattle.luffapricot_c.specs.Calls.{IfTaken};
 ghost use Rattle.luffapricot_c.specs.Fetches.{Cancels, CompletesOr, Fetches};
 ghost use Rattle.luffapricot_c.specs.Statuses.{told_of};
 
+use super::ByteCache;
 use super::holds::{answer, hold, keep};
-use super::{ByteCache, LuffaTerms};
 use crate::fetches::LuffaFetch;
 use crate::hold::{Held, Hold};
 use crate::key::copied;
 use crate::record::LuffaRecord;
 use crate::status;
+use crate::terms::LuffaTerms;
 use crate::value::Value;
 use foyer_core::{Ended, FetchTarget, Lookup};
 use foyer_policy::{Result, Source};

@@ -21,13 +21,13 @@ impl ByteCache {
         ensures { GetsCopy now hash key.now out.old result out.new self.old self.new }
     {
         self.asked.set(hash, key)?;
-        if !self.core.touch(now, &self.asked)? {
-            return Ok(None);
-        }
-        let Some(value) = self.core.value(now, &self.asked) else {
+        let Some(name) = self.core.touch_named(now, &self.asked)? else {
             return Ok(None);
         };
-        Ok(Some(copy_value(value, out)))
+        let Some(record) = self.core.held(name) else {
+            unreachable!();
+        };
+        Ok(Some(copy_value(record.value(), out)))
     }
 
     /// Copies the value of the record that a lookup would find, or the part of it that fits, and counts no use. The

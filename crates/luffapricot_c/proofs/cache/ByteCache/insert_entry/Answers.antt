@@ -24,7 +24,7 @@ returns-in-Ok c =
         told = i.told;
         rest = record { held = refl; fetches = refl; left = refl; listener = i.rest.listener };
       },
-      holds_same _ _ _ _ _
+      holds_same _ _ _ _ _ _
           (ap (λ s. s.holds.slots) c.in-Ok.ensures.rest ∙ ap (λ h. h.slots) c.in_ok-reserve.ensures.rest_kept)
           c.hold.ensures,
       c.answer.ensures,

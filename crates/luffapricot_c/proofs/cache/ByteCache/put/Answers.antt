@@ -1,7 +1,7 @@
 use Rattle.std.proofs.Common.{inr, refl}
 use Rattle.luffapricot_c.proofs.CallLemmas.{told_more}
 use Rattle.luffapricot_c.proofs.Clones.{key_clone}
-use Rattle.luffapricot_c.proofs.cache.ByteCache.insert.Goals as goal
+use Rattle.luffapricot_c.proofs.cache.ByteCache.put.Goals as goal
 
 pub put_onto-put-requires-clause-clones : goal.put_onto-put-requires-clause-clones
 put_onto-put-requires-clause-clones c κs = λ k c' clone.
@@ -12,12 +12,12 @@ returns-in-Ok c =
     let went = c.in-Ok.ensures.puts in (
       c.in-Ok.field-0,
       record {
-        own = c.in_ok-key.key;
-        own_is = (c.in_ok-key.ensures.hash, c.in_ok-key.ensures.bytes);
-        value = record { bytes = c.in_ok-copy.copy; weight = c.args.weight; owner = 0 };
-        value_is = (c.in_ok-copy.ensures.bytes, refl, refl);
+        own = c.args.key;
+        own_is = (refl, refl);
+        value = c.args.value;
+        value_is = (refl, refl, refl);
         leaves = went.more;
-        puts = rw c.plain_properties.ensures at went.so;
+        puts = went.so;
         answered = c.in-Ok.ensures.fetches;
         told = told_more c.args.self.now.has_listener c.args.self.now.left.items went.more c.put_onto-put.new.leaves.items
             c.forget_left.new.left.items went.told c.forget_left.ensures;
@@ -30,12 +30,12 @@ pub returns-in-Err : goal.returns-in-Err
 returns-in-Err c =
     let went = c.in-Err.ensures.puts in inr (
       record {
-        own = c.in_ok-key.key;
-        own_is = (c.in_ok-key.ensures.hash, c.in_ok-key.ensures.bytes);
-        value = record { bytes = c.in_ok-copy.copy; weight = c.args.weight; owner = 0 };
-        value_is = (c.in_ok-copy.ensures.bytes, refl, refl);
+        own = c.args.key;
+        own_is = (refl, refl);
+        value = c.args.value;
+        value_is = (refl, refl, refl);
         leaves = went.more;
-        puts = rw c.plain_properties.ensures at went.so;
+        puts = went.so;
         answered = c.in-Err.ensures.fetches;
         told = told_more c.args.self.now.has_listener c.args.self.now.left.items went.more c.put_onto-put.new.leaves.items
             c.forget_left.new.left.items went.told c.forget_left.ensures;
