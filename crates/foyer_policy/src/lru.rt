@@ -14,7 +14,7 @@ use crate::error::{Error, Field, Reason, Result};
 use crate::eviction::Eviction;
 use crate::limit::{Range, check_ratio, limit_of};
 use crate::lists::Place;
-use crate::queued::{Queued, append_items};
+use crate::queued::{ItemState, Queued, append_items};
 use crate::types::{Hint, Item, Ratio};
 use pools::{HIGH, LOW, Node, PIN, drain, relist, settle};
 use serde::{Deserialize, Serialize};
@@ -49,6 +49,14 @@ impl Default for LruConfig {
 pub struct LruState {
     high: bool,
     pinned: bool,
+}
+
+// Each call sets another state, so none are compared.
+impl ItemState for LruState {
+    #[inline(always)]
+    fn is(&self, _other: &Self) -> bool {
+        false
+    }
 }
 
 /// Least recently used, with a pool of high priority and with pins, as in `foyer-memory`.

@@ -1,6 +1,7 @@
 //! Items in lists, alone or with the state that a policy keeps beside them.
 
 ghost use Rattle.std.specs.Prelude.{◌≡◌, ◌++◌, ◌<◌, IfErr, OnOk, map, option_map};
+ghost use Rattle.std.specs.Bool.{OnTrue};
 ghost use Rattle.foyer_policy.specs.Lists.{list_at};
 ghost use Rattle.foyer_policy.specs.declared.types.Item.{Item};
 ghost use Rattle.foyer_policy.specs.declared.error.Reason.TheVariants.{NoMemory};
@@ -25,6 +26,13 @@ pub(crate) trait HasItem {
 
     fn set_slot(&mut self, slot: usize)
         ensures { self.new ≡ self.old };
+}
+
+/// What a policy keeps beside an item.
+pub(crate) trait ItemState: Copy {
+    /// Returns true only if the states are equal.
+    fn is(&self, other: &Self) -> bool
+        ensures { OnTrue result (self.now ≡ other.now) };
 }
 
 impl HasItem for Kept {
@@ -124,7 +132,7 @@ impl<S> Queued<S> {
     }
 }
 
-impl<S: Copy> Queued<S> {
+impl<S: ItemState> Queued<S> {
     /// Returns the state.
     #[inline(always)]
     pub(crate) fn state(&self) -> S
@@ -133,12 +141,15 @@ impl<S: Copy> Queued<S> {
         self.state
     }
 
-    /// Sets the state. The item stays.
+    /// Sets the state. The item stays. A state that is there isn't written again, which would take the node away from
+    /// other processors that read it.
     #[inline(always)]
     pub(crate) fn set_state(&mut self, state: S)
         ensures { self.new ≡ record { item = self.old.item; state = state } }
     {
-        self.state = state;
+        if !self.state.is(&state) {
+            self.state = state;
+        }
     }
 }
 

@@ -13,7 +13,7 @@ use crate::due::first_of_lists;
 use crate::error::{Error, Reason, Result};
 use crate::eviction::Eviction;
 use crate::lists::Place;
-use crate::queued::{Queued, append_items};
+use crate::queued::{ItemState, Queued, append_items};
 use crate::types::Item;
 use serde::{Deserialize, Serialize};
 use std::alloc::Global;
@@ -27,6 +27,13 @@ pub struct SieveConfig;
 #[derive(Clone, Copy, Debug, Default)]
 pub struct SieveState {
     visited: bool,
+}
+
+impl ItemState for SieveState {
+    #[inline(always)]
+    fn is(&self, other: &Self) -> bool {
+        self.visited == other.visited
+    }
 }
 
 type Node = Queued<SieveState>;

@@ -5,9 +5,9 @@ ghost use Rattle.foyer_policy.specs.Lists.{find, with_value, AreLists};
 
 use super::DatedLists;
 use crate::lists::Place;
-use crate::queued::Queued;
+use crate::queued::{ItemState, Queued};
 
-impl<S: Copy, const N: usize> DatedLists<Queued<S>, N> {
+impl<S: ItemState, const N: usize> DatedLists<Queued<S>, N> {
     /// Sets the state of the value at a place; its item stays. The place must have a value.
     #[inline(always)]
     pub(crate) fn set_state(&mut self, place: Place, state: S)

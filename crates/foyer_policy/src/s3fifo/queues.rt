@@ -11,7 +11,7 @@ ghost use Rattle.foyer_policy.specs.S3FifoQueues.{item_at, small_of, main_of, vi
 use crate::dated_lists::DatedLists;
 use crate::ghost_queue::GhostQueue;
 use crate::lists::Place;
-use crate::queued::Queued;
+use crate::queued::{ItemState, Queued};
 use crate::types::Item;
 
 // The numbers of the two lists.
@@ -27,6 +27,13 @@ pub(super) const MOST: u8 = 3;
 pub struct S3FifoState {
     pub(super) frequency: u8,
     pub(super) is_main: bool,
+}
+
+impl ItemState for S3FifoState {
+    #[inline(always)]
+    fn is(&self, other: &Self) -> bool {
+        self.frequency == other.frequency && self.is_main == other.is_main
+    }
 }
 
 pub(super) type Node = Queued<S3FifoState>;
