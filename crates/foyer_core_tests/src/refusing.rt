@@ -8,8 +8,8 @@ use std::marker::Model;
 use std::sync::Arc;
 use std::sync::atomic::{AtomicU64, Ordering};
 
-/// A policy whose request number `AT` is refused, counted from 0: the calls of `reserve`, `reserve_to`, `pop_at`,
-/// `reserve_clear` and `order`.
+/// A policy whose request number `AT` is refused, counted from 0: the calls of `reserve_to` for more nodes than there
+/// are, `pop_at`, `reserve_clear` and `order`.
 #[derive(Drop)]
 pub struct RefusingPolicy<E, const AT: u64> {
     policy: E,
@@ -67,14 +67,11 @@ impl<E: Eviction, const AT: u64> Eviction for RefusingPolicy<E, AT> {
     }
 
     fn reserve(&mut self) -> Result<()> {
-        if !self.grants() {
-            return Err(Error::new(Reason::NoMemory));
-        }
         self.policy.reserve()
     }
 
     fn reserve_to(&mut self, wanted: usize) -> Result<()> {
-        if !self.grants() {
+        if self.policy.span() < wanted && !self.grants() {
             return Err(Error::new(Reason::NoMemory));
         }
         self.policy.reserve_to(wanted)

@@ -1,6 +1,6 @@
 //! Linked lists of items, with the dates of those that expire.
 
-ghost use Rattle.std.specs.Prelude.{◌≡◌, ◌≢◌, ℕ, ◌+◌, ◌^◌, ◌<◌, ◌≤◌, ◌∷◌, ◌++◌, [], Some, None, OnOk, IfErr, IfSome, IsSome, length, map, sum_by, slice_set, if◌then◌else◌, replicate, is_some};
+ghost use Rattle.std.specs.Prelude.{◌≡◌, ◌≢◌, ℕ, ◌+◌, ◌^◌, ◌<◌, ◌≤◌, ◌∷◌, ◌++◌, [], Some, None, OnOk, IfErr, IfSome, IsOk, IsSome, length, map, sum_by, slice_set, if◌then◌else◌, replicate, is_some};
 ghost use Rattle.foyer_policy.specs.Lists.{list_at, first_entry, first_or, find, find_in, first_value, rest, drop_place, moved, AreLists};
 ghost use Rattle.foyer_policy.specs.declared.error.Reason.TheVariants.{NoMemory};
 
@@ -61,41 +61,46 @@ impl<T: HasItem, const N: usize> DatedLists<T, N> {
         }
     }
 
-    /// Makes room for `more` values beside those in the lists, and for one date.
+    /// Makes room for `more` values beside those in the lists, and for one date if there is memory for that.
     ///
     /// # Errors
-    /// F7 if memory runs out. The lists are as they were, and neither the room nor the span is less.
+    /// F7 if the room is still less than `more`. The lists are as they were, and neither the room nor the span is
+    /// less.
     #[inline(always)]
     pub(crate) fn reserve(&mut self, more: usize) -> Result<()>
         ensures room { OnOk result (more ≤ self.new.room) }
         ensures lists { self.new.lists ≡ self.old.lists }
         ensures kept { self.old.room ≤ self.new.room }
         ensures span { self.old.span ≤ self.new.span }
+        ensures granted { more ≤ self.old.room → IsOk result }
         ensures refused { IfErr result (λ e. e ≡ NoMemory) }
         ensures small { sum_by length self.old.lists < 2 ^ 64 }
         ensures apart { AreLists N self.old.lists }
     {
         let reserved = self.lists.reserve(more);
-        follow_reserve(&mut self.dates, &mut self.lists, self.searched, self.alloc)?;
+        follow_reserve(&mut self.dates, &mut self.lists, self.searched, self.alloc);
         reserved
     }
 
-    /// Makes nodes until there are `wanted`, so that each number below it is a place.
+    /// Makes nodes until there are `wanted`, so that each number below it is a place, and room for one date if there is
+    /// memory for that.
     ///
     /// # Errors
-    /// F7 if memory runs out. The lists are as they were, and neither the room nor the span is less.
+    /// F7 if the span is still less than `wanted`. The lists are as they were, and neither the room nor the span is
+    /// less.
     #[inline(always)]
     pub(crate) fn reserve_to(&mut self, wanted: usize) -> Result<()>
         ensures enough { OnOk result (wanted ≤ self.new.span) }
         ensures lists { self.new.lists ≡ self.old.lists }
         ensures kept { self.old.room ≤ self.new.room }
         ensures span { self.old.span ≤ self.new.span }
+        ensures granted { wanted ≤ self.old.span → IsOk result }
         ensures refused { IfErr result (λ e. e ≡ NoMemory) }
         ensures small { sum_by length self.old.lists < 2 ^ 64 }
         ensures apart { AreLists N self.old.lists }
     {
         let reserved = self.lists.reserve_to(wanted);
-        follow_reserve(&mut self.dates, &mut self.lists, self.searched, self.alloc)?;
+        follow_reserve(&mut self.dates, &mut self.lists, self.searched, self.alloc);
         reserved
     }
 

@@ -90,9 +90,10 @@ pub trait Eviction: Drop {
     /// Makes room for one push, for which the span may grow.
     ///
     /// # Errors
-    /// F7 if memory runs out; nothing else has changed.
+    /// F7 if there is none and memory runs out; nothing else has changed.
     fn reserve(&mut self) -> Result<()>
         ensures room { OnOk result (0 < room self.new) }
+        ensures granted { 0 < room self.old → IsOk result }
         ensures refused { IfErr result (λ e. e ≡ NoMemory) }
         ensures view { view self.new ≡ view self.old }
         ensures places { (p : ℕ) → at self.new p ≡ at self.old p }
@@ -103,9 +104,10 @@ pub trait Eviction: Drop {
     /// Makes nodes until there are `wanted`, so that each number below it is a place.
     ///
     /// # Errors
-    /// F7 if memory runs out; nothing else has changed.
+    /// F7 if there are fewer and memory runs out; nothing else has changed.
     fn reserve_to(&mut self, wanted: usize) -> Result<()>
         ensures enough { OnOk result (wanted ≤ span self.new) }
+        ensures granted { wanted ≤ span self.old → IsOk result }
         ensures refused { IfErr result (λ e. e ≡ NoMemory) }
         ensures view { view self.new ≡ view self.old }
         ensures places { (p : ℕ) → at self.new p ≡ at self.old p }

@@ -60,44 +60,44 @@ fn put_weight<const AT: u64, I: Finder<u64>>(
     }
 }
 
-// Three records give way to one that is as heavy as all of them, but that insert is refused once so many have left.
+// Four records give way to one that is as heavy as all of them, but that insert is refused once so many have left.
 fn insert_is_refused<const AT: u64, I: Finder<u64>>(
     rt: &impl Abort,
     alloc: Global,
     gone: usize,
 ) -> Done {
-    let keys = [1, 2, 3];
-    let mut core: Hostile<AT, I> = hostile(alloc, 3, 1)?;
+    let keys = [1, 2, 3, 4];
+    let mut core: Hostile<AT, I> = hostile(alloc, 4, 1)?;
     for key in keys {
         assert!(rt; put_weight(rt, &mut core, key, 1).0.is_some());
     }
-    let (id, leaves) = put_weight(rt, &mut core, 4, 3);
-    assert!(rt; id.is_none() && !core.contains(0, &4));
+    let (id, leaves) = put_weight(rt, &mut core, 5, 4);
+    assert!(rt; id.is_none() && !core.contains(0, &5));
     assert_evicted(rt, &leaves, &keys[..gone]);
-    assert_eq!(rt; core.usage(), 3 - gone as u128);
-    let (id, leaves) = put_weight(rt, &mut core, 4, 3);
-    assert_eq!(rt; (id, core.usage(), core.entries()), (Some(3), 3, 1));
+    assert_eq!(rt; core.usage(), 4 - gone as u128);
+    let (id, leaves) = put_weight(rt, &mut core, 5, 4);
+    assert_eq!(rt; (id, core.usage(), core.entries()), (Some(4), 4, 1));
     assert_evicted(rt, &leaves, &keys[gone..]);
     Ok(())
 }
 
-// The fourth insert asks the policy for room by the request of number 3, and for evictions by those from number 4 on. The
-// index is asked last of all.
+// The first insert asks the policy for four nodes. The fifth asks it for more by the request of number 1, and for
+// evictions by those from number 2 on. The index is asked last of all.
 #[test]
 fn a_refused_insert_has_evicted_a_beginning(rt: HostRuntime) -> Done {
     const NEVER: u64 = u64::MAX;
-    insert_is_refused::<3, TagFinder<u64>>(&rt, rt.alloc(), 0)?;
-    insert_is_refused::<4, TagFinder<u64>>(&rt, rt.alloc(), 0)?;
-    insert_is_refused::<6, TagFinder<u64>>(&rt, rt.alloc(), 2)?;
-    type Refusing = Indexed<RefusingIndex<HashTableIndexer<u64>, 3>>;
-    insert_is_refused::<NEVER, Refusing>(&rt, rt.alloc(), 3)
+    insert_is_refused::<1, TagFinder<u64>>(&rt, rt.alloc(), 0)?;
+    insert_is_refused::<2, TagFinder<u64>>(&rt, rt.alloc(), 0)?;
+    insert_is_refused::<4, TagFinder<u64>>(&rt, rt.alloc(), 2)?;
+    type Refusing = Indexed<RefusingIndex<HashTableIndexer<u64>, 4>>;
+    insert_is_refused::<NEVER, Refusing>(&rt, rt.alloc(), 4)
 }
 
 // Of two shards the second has five records: its policy alone is asked as often as five times.
 #[test]
 fn a_refused_eviction_of_all_has_a_beginning(rt: HostRuntime) -> Done {
     let keys = [0, 1, 3, 5, 7, 9];
-    let mut core: Hostile<7> = hostile(rt.alloc(), 64, 2)?;
+    let mut core: Hostile<4> = hostile(rt.alloc(), 64, 2)?;
     for key in keys {
         assert!(rt; put_weight(&rt, &mut core, key, 1).0.is_some());
     }

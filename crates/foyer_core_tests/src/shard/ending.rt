@@ -36,7 +36,7 @@ fn all_that_is_in_is_told_in_order(rt: HostRuntime) -> Done {
 }
 
 // What the end of a shard with three records tells, of which the first was used last, where the policy's request of
-// this number is refused. Each insert makes one, counted from 0, and the end makes one.
+// this number is refused. The first insert makes one, counted from 0, and the end makes one.
 fn end_of_three<const AT: u64>(
     rt: &impl Abort,
     alloc: Global,
@@ -53,9 +53,9 @@ fn end_of_three<const AT: u64>(
 // Where the policy's order is refused, all are told by their slots.
 #[test]
 fn a_refused_order_loses_none(rt: HostRuntime) -> Done {
-    let told = end_of_three::<3>(&rt, rt.alloc())?;
+    let told = end_of_three::<1>(&rt, rt.alloc())?;
     assert_eq!(rt; told.as_slice(), [(1, 10), (2, 20), (3, 30)].as_slice());
-    let told = end_of_three::<4>(&rt, rt.alloc())?;
+    let told = end_of_three::<2>(&rt, rt.alloc())?;
     assert_eq!(rt; told.as_slice(), [(2, 20), (3, 30), (1, 10)].as_slice());
     Ok(())
 }

@@ -1,16 +1,14 @@
 //! Keeps the dates up to date with each change of the lists, before the change is made.
 
-ghost use Rattle.std.specs.Prelude.{◌≡◌, ◌<◌, ◌∷◌, ◌++◌, [], None, IfErr, IsSome, map, slice_set};
+ghost use Rattle.std.specs.Prelude.{◌≡◌, ◌<◌, ◌∷◌, ◌++◌, [], None, IsSome, map, slice_set};
 ghost use Rattle.foyer_policy.specs.DatedLists.{Knows, dates_at};
 ghost use Rattle.foyer_policy.specs.Dates.{with_last};
 ghost use Rattle.foyer_policy.specs.Lists.{drop_place, find, find_in, list_at, moved, rest};
-ghost use Rattle.foyer_policy.specs.declared.error.Reason.TheVariants.{NoMemory};
 
 use super::building::built;
 use super::noting::note_slot_at;
 use super::tracking::Tracking;
 use crate::dates::Gone;
-use crate::error::Result;
 use crate::lists::{Lists, Place};
 use crate::queued::HasItem;
 use std::alloc::Global;
@@ -185,7 +183,8 @@ pub(super) fn follow_move<T: HasItem, const N: usize>(
     }
 }
 
-// Makes room for the date of one more item, and looks up all dates if they weren't known. F7 if memory runs out.
+// Makes room for the date of one more item, and looks up all dates if they weren't known. If memory runs out, they
+// aren't known.
 #[cold]
 #[inline(never)]
 fn make_room<T: HasItem, const N: usize>(
@@ -193,24 +192,22 @@ fn make_room<T: HasItem, const N: usize>(
     lists: &mut Lists<T, N>,
     searched: u8,
     alloc: Global,
-) -> Result<()>
+)
     requires { Knows N (dates_at T.item_of lists.old.lists) dates.old }
     ensures known { Knows N (dates_at T.item_of lists.old.lists) dates.new }
     ensures lists { lists.new ≡ lists.old }
-    ensures refused { IfErr result (λ e. e ≡ NoMemory) }
 {
     match dates {
-        Tracking::Plain => Ok(()),
+        Tracking::Plain => {}
         Tracking::Untracked => {
-            *dates = built(alloc, lists, searched)?;
-            Ok(())
+            if let Ok(known) = built(alloc, lists, searched) {
+                *dates = known;
+            }
         }
         Tracking::Tracked(index) => {
-            let reserved = index.reserve(lists);
-            if reserved.is_err() {
+            if index.reserve(lists).is_err() {
                 *dates = Tracking::Untracked;
             }
-            reserved
         }
     }
 }
@@ -223,38 +220,33 @@ fn reserve_dates<T: HasItem, const N: usize>(
     lists: &mut Lists<T, N>,
     searched: u8,
     alloc: Global,
-) -> Result<()>
+)
     requires { Knows N (dates_at T.item_of lists.old.lists) dates.old }
     ensures known { Knows N (dates_at T.item_of lists.old.lists) dates.new }
     ensures lists { lists.new ≡ lists.old }
-    ensures refused { IfErr result (λ e. e ≡ NoMemory) }
 {
     if let Tracking::Tracked(index) = dates {
         if index.has_room() {
-            return Ok(());
+            return;
         }
     }
-    make_room(dates, lists, searched, alloc)
+    make_room(dates, lists, searched, alloc);
 }
 
-/// Makes room for the date of one more item.
-///
-/// # Errors
-/// F7 if memory runs out.
+/// Makes room for the date of one more item. If memory runs out, a search walks along its list until the next call.
 #[inline(always)]
 pub(super) fn follow_reserve<T: HasItem, const N: usize>(
     dates: &mut Tracking,
     lists: &mut Lists<T, N>,
     searched: u8,
     alloc: Global,
-) -> Result<()>
+)
     requires { Knows N (dates_at T.item_of lists.old.lists) dates.old }
     ensures known { Knows N (dates_at T.item_of lists.old.lists) dates.new }
     ensures lists { lists.new ≡ lists.old }
-    ensures refused { IfErr result (λ e. e ≡ NoMemory) }
 {
     match dates {
-        Tracking::Plain => Ok(()),
+        Tracking::Plain => {}
         _ => reserve_dates(dates, lists, searched, alloc),
     }
 }

@@ -44,25 +44,28 @@ impl<T: HasItem, const N: usize> DatedLists<T, N> {
         }
     }
 
-    /// Makes room for `more` values beside those in the lists, and for one date.
+    /// Makes room for `more` values beside those in the lists, and for one date if there is memory for that.
     ///
     /// # Errors
-    /// F7 if memory runs out. The lists are as they were, and neither the room nor the span is less.
+    /// F7 if the room is still less than `more`. The lists are as they were, and neither the room nor the span is
+    /// less.
     #[inline(always)]
     pub(crate) fn reserve(&mut self, more: usize) -> Result<()> {
         let reserved = self.lists.reserve(more);
-        follow_reserve(&mut self.dates, &mut self.lists, self.searched, self.alloc)?;
+        follow_reserve(&mut self.dates, &mut self.lists, self.searched, self.alloc);
         reserved
     }
 
-    /// Makes nodes until there are `wanted`, so that each number below it is a place.
+    /// Makes nodes until there are `wanted`, so that each number below it is a place, and room for one date if there is
+    /// memory for that.
     ///
     /// # Errors
-    /// F7 if memory runs out. The lists are as they were, and neither the room nor the span is less.
+    /// F7 if the span is still less than `wanted`. The lists are as they were, and neither the room nor the span is
+    /// less.
     #[inline(always)]
     pub(crate) fn reserve_to(&mut self, wanted: usize) -> Result<()> {
         let reserved = self.lists.reserve_to(wanted);
-        follow_reserve(&mut self.dates, &mut self.lists, self.searched, self.alloc)?;
+        follow_reserve(&mut self.dates, &mut self.lists, self.searched, self.alloc);
         reserved
     }
 

@@ -41,13 +41,13 @@ pub trait Eviction: Sized {
     /// Makes room for one push, for which the span may grow.
     ///
     /// # Errors
-    /// F7 if memory runs out; nothing else has changed.
+    /// F7 if there is none and memory runs out; nothing else has changed.
     fn reserve(&mut self) -> Result<()>;
 
     /// Makes nodes until there are `wanted`, so that each number below it is a place.
     ///
     /// # Errors
-    /// F7 if memory runs out; nothing else has changed.
+    /// F7 if there are fewer and memory runs out; nothing else has changed.
     fn reserve_to(&mut self, wanted: usize) -> Result<()>;
 
     /// Returns the free place that `push` takes next. Needs reserved room.

@@ -7,7 +7,6 @@ use super::building::built;
 use super::noting::note_slot_at;
 use super::tracking::Tracking;
 use crate::proved::foyer_policy::dates::Gone;
-use crate::proved::foyer_policy::error::Result;
 use crate::proved::foyer_policy::lists::{Lists, Place};
 use crate::proved::foyer_policy::queued::HasItem;
 use crate::rattle_std::alloc::Global;
@@ -130,7 +129,8 @@ pub(crate) fn follow_move<T: HasItem, const N: usize>(
     }
 }
 
-// Makes room for the date of one more item, and looks up all dates if they weren't known. F7 if memory runs out.
+// Makes room for the date of one more item, and looks up all dates if they weren't known. If memory runs out, they
+// aren't known.
 #[cold]
 #[inline(never)]
 fn make_room<T: HasItem, const N: usize>(
@@ -138,19 +138,18 @@ fn make_room<T: HasItem, const N: usize>(
     lists: &mut Lists<T, N>,
     searched: u8,
     alloc: Global,
-) -> Result<()> {
+) {
     match dates {
-        Tracking::Plain => Ok(()),
+        Tracking::Plain => {}
         Tracking::Untracked => {
-            *dates = built(alloc, lists, searched)?;
-            Ok(())
+            if let Ok(known) = built(alloc, lists, searched) {
+                *dates = known;
+            }
         }
         Tracking::Tracked(index) => {
-            let reserved = index.reserve(lists);
-            if reserved.is_err() {
+            if index.reserve(lists).is_err() {
                 *dates = Tracking::Untracked;
             }
-            reserved
         }
     }
 }
@@ -163,28 +162,25 @@ fn reserve_dates<T: HasItem, const N: usize>(
     lists: &mut Lists<T, N>,
     searched: u8,
     alloc: Global,
-) -> Result<()> {
+) {
     if let Tracking::Tracked(index) = dates {
         if index.has_room() {
-            return Ok(());
+            return;
         }
     }
-    make_room(dates, lists, searched, alloc)
+    make_room(dates, lists, searched, alloc);
 }
 
-/// Makes room for the date of one more item.
-///
-/// # Errors
-/// F7 if memory runs out.
+/// Makes room for the date of one more item. If memory runs out, a search walks along its list until the next call.
 #[inline(always)]
 pub(crate) fn follow_reserve<T: HasItem, const N: usize>(
     dates: &mut Tracking,
     lists: &mut Lists<T, N>,
     searched: u8,
     alloc: Global,
-) -> Result<()> {
+) {
     match dates {
-        Tracking::Plain => Ok(()),
+        Tracking::Plain => {}
         _ => reserve_dates(dates, lists, searched, alloc),
     }
 }
