@@ -26,9 +26,7 @@ class LuffaCache : public rocksdb::Cache {
         config.shards = shards;
         config.listener = Left;
         config.listener_context = cache.get();
-        if (cache != nullptr && luffa_create(&config, &cache->records_) != LUFFA_OK)
-            cache = nullptr;
-        return cache;
+        return cache != nullptr && luffa_create(&config, &cache->records_) == LUFFA_OK ? cache : nullptr;
     }
 
     ~LuffaCache() override { luffa_destroy(records_); }
@@ -42,9 +40,7 @@ class LuffaCache : public rocksdb::Cache {
     rocksdb::Status Insert(const rocksdb::Slice &key, void *value, size_t charge, DeleterFn deleter, Handle **handle,
                            Priority /*priority*/) override {
         bool is_strict = is_strict_;
-        std::unique_lock<std::recursive_mutex> guard(strict_, std::defer_lock);
-        if (is_strict)
-            guard.lock();
+        auto guard = is_strict ? std::unique_lock(strict_) : std::unique_lock<std::recursive_mutex>();
         if (is_strict && GetPinnedUsage() + charge > capacity_)
             return Refuse(key, value, deleter, handle);
         Item *item = new (std::nothrow) Item{{}, StripeOf(key), key.ToString(), value, charge, deleter, !is_strict};
@@ -75,14 +71,17 @@ class LuffaCache : public rocksdb::Cache {
         return true;
     }
 
-    // If another thread inserts the key at the same time, its item may be erased instead, as if it had been evicted.
     bool Release(Handle *handle, bool is_erased_if_last) override {
         Item *item = Of(handle);
         std::unique_lock<std::mutex> guard(item->stripe.mutex);
         if (item->handles == 1 && item->is_in && is_erased_if_last) {
             item->is_shown = false; // from now on no thread gets a handle
             guard.unlock();
-            luffa_remove(records_, item->key.data(), item->key.size());
+            luffa_entry entry = {};
+            if (luffa_get_entry(records_, 0, item->key.data(), item->key.size(), &entry) == LUFFA_OK &&
+                std::memcmp(entry.value, &item, sizeof item) == 0) // and no newer item
+                luffa_remove_this(&entry);
+            luffa_release(&entry);
             guard.lock();
         }
         if (--item->handles == 0) {

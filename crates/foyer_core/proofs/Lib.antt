@@ -53,6 +53,7 @@ pub mod Masks
 pub mod MomentLaws
 pub mod Moments
 pub mod Named
+pub mod Naming
 pub mod NearLemmas
 pub mod NoEntryLemmas
 pub mod Observing

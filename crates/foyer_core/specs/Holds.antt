@@ -1,9 +1,10 @@
 -- Handles that have a name and no share of their record's data, and records that are named by it.
-use Rattle.std.specs.Prelude.{◌≡◌, ℕ, ◌<◌, ◌==◌, ◌&&◌, Option, Some, None, Result, Ok, Err, IsSomeAnd, if◌then◌else◌}
+use Rattle.std.specs.Prelude.{◌≡◌, ℕ, ◌<◌, ◌==◌, ◌&&◌, false, true, Option, Some, None, Result, Ok, Err, IsSomeAnd, if◌then◌else◌}
 use Rattle.foyer_policy.specs.declared.error.Reason.{Reason}
 use Rattle.foyer_policy.specs.declared.error.Reason.TheVariants.{Handles}
 use Rattle.foyer_core.specs.declared.hold.Hold.{Hold}
 use Rattle.foyer_core.specs.Core.{Core, shard_at, shard_of}
+use Rattle.foyer_core.specs.Pieces.{is_in}
 use Rattle.foyer_core.specs.Values.{Held}
 use Rattle.foyer_core.specs.State.{Meaning, State, handles_in}
 use Rattle.foyer_core.specs.Steps.{Gets}
@@ -30,3 +31,11 @@ Holds m now old k (Err _) new = ⊥
 -- the name of a record of a state, in the shard of this hash, that has this value
 abbrev pub Names : {K V P View : Type 0} → State K V P View → ℕ → V → Hold → Type 0
 Names s hash v hold = (hold.hash ≡ hash) × IsSomeAnd (s.records hold.id) (λ r. r.kept.value ≡ v)
+
+-- the name of a record of a state that is in the index
+abbrev pub NamesResident : {K V P View : Type 0} → State K V P View → Hold → Type 0
+NamesResident s hold = IsSomeAnd (s.records hold.id) (λ r. (r.resident ≡ true) × (r.kept.hash ≡ hold.hash))
+
+-- no record is in the index
+abbrev pub HasNoResident : {K V P View : Type 0} → State K V P View → Type 0
+HasNoResident s = (id : ℕ) → is_in (s.records id) ≡ false

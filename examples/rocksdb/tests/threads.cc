@@ -103,12 +103,38 @@ void Work(Cache &cache, uint64_t seed, int calls) {
     }
 }
 
+// Erases an item while another thread inserts one under its key, which stays.
+void EraseThis(Cache &cache, int turns) {
+    for (int i = 0; i < turns; i++) {
+        Cache::Handle *handle = InsertValue(cache, kKeys, true);
+        std::atomic<int> ready{0};
+        auto meet = [&] {
+            ready++;
+            while (ready < 2)
+                std::this_thread::yield();
+        };
+        std::thread other([&] {
+            meet();
+            InsertValue(cache, kKeys, false);
+        });
+        meet();
+        cache.Release(handle, true);
+        other.join();
+        handle = cache.Lookup(std::to_string(kKeys));
+        Expect(handle != nullptr, "the other item stays");
+        Check(cache, handle, kKeys);
+        cache.Release(handle, true);
+        Expect(cache.Lookup(std::to_string(kKeys)) == nullptr, "the last item is erased");
+    }
+}
+
 } // namespace
 
 int main(int count, char **words) {
     if (count < 3)
         return 2;
     auto cache = MakeCache(words[1], kCapacity, 2);
+    EraseThis(*cache, std::atoi(words[2]));
     cache->SetStrictCapacityLimit(count > 3);
     std::vector<std::thread> threads;
     for (size_t i = 0; i < kThreads; i++)

@@ -1,6 +1,6 @@
 //! Handles by name, for callers that keep the core alive themselves.
 
-ghost use Rattle.std.specs.Prelude.{◌≡◌, ◌↔◌, [], IfNone, IfOk, IfSome, IsOk, IsSomeAnd, MatchResult, OnErr, is_some, option_map};
+ghost use Rattle.std.specs.Prelude.{◌≡◌, ◌↔◌, [], IfNone, IfOk, IfSome, IsOk, IsSomeAnd, MatchResult, OnErr, is_some, option_map, slice_get};
 ghost use Rattle.std.specs.Option.{option_to_list};
 ghost use Rattle.foyer_policy.specs.declared.types.Event.TheVariants.{Remove};
 ghost use Rattle.foyer_core.specs.Pieces.{is_in};
@@ -30,9 +30,9 @@ impl<
 > CacheCore<E, K, V, P, S, W, A, N, R, I> {
     ghost use Rattle.foyer_core.specs.Bulk.{TakesRecordOut};
     ghost use Rattle.foyer_core.specs.CallLaws.{CallLaws};
-    ghost use Rattle.foyer_core.specs.Core.{AtShard, shard_at};
+    ghost use Rattle.foyer_core.specs.Core.{AtShard, shard_at, shard_of};
     ghost use Rattle.foyer_core.specs.Cores.{core_of, fetches_of, hashes_of, meaning_of_core};
-    ghost use Rattle.foyer_core.specs.Holds.{Holds, IsHeld, Names, one_named};
+    ghost use Rattle.foyer_core.specs.Holds.{HasNoResident, Holds, IsHeld, Names, NamesResident, one_named};
     ghost use Rattle.foyer_core.specs.NoEntry.{Reads};
     ghost use Rattle.foyer_core.specs.Steps.{GivesBack};
 
@@ -118,5 +118,20 @@ impl<
         let after = Load::of(&self.shards[place]);
         self.load.replace(before, after);
         removed
+    }
+
+    /// Names a resident record of one shard, if there is one: the first in a slot from `slot` on, or else the first of
+    /// all. With the slot of the last name, removals of all records pass each slot a few times.
+    ///
+    /// It makes no handle, and takes no memory.
+    pub fn resident_from(&self, shard: usize, slot: usize) -> Option<Hold>
+        ensures some { IfSome result (λ hold. (shard_of (core_of self.now) hold.hash ≡ shard)
+            × IsSomeAnd (shard_at (core_of self.now) hold.hash) (λ s. NamesResident s hold)) }
+        ensures none { IfNone result (IfSome (slice_get (core_of self.now).shards shard) HasNoResident) }
+    {
+        match self.shards.get(shard) {
+            Some(shard) => shard.resident_from(slot),
+            None => None,
+        }
     }
 }

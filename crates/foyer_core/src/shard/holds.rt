@@ -22,7 +22,7 @@ impl<E: Eviction, K: Key, V: Value, P: Properties, N: Drop, R: Drop, I: Finder<K
 > {
     ghost use Rattle.foyer_core.specs.Shards.{state_of, meaning_of, opens_of};
     ghost use Rattle.foyer_core.specs.Bulk.{TakesRecordOut};
-    ghost use Rattle.foyer_core.specs.Holds.{Holds, Names};
+    ghost use Rattle.foyer_core.specs.Holds.{HasNoResident, Holds, Names, NamesResident};
     ghost use Rattle.foyer_core.specs.NoEntry.{Reads};
     ghost use Rattle.foyer_core.specs.State.{handles_in};
     ghost use Rattle.foyer_core.specs.Steps.{GivesBack};
@@ -84,5 +84,14 @@ impl<E: Eviction, K: Key, V: Value, P: Properties, N: Drop, R: Drop, I: Finder<K
         ensures opens { opens_of self.new ≡ opens_of self.old }
     {
         self.store.remove_this(hold)
+    }
+
+    /// Names a resident record, if there is one: the first in a slot from `slot` on, or else the first of all. It takes
+    /// no memory, and makes no handle.
+    pub fn resident_from(&self, slot: usize) -> Option<Hold>
+        ensures some { IfSome result (NamesResident (state_of self.now)) }
+        ensures none { IfNone result (HasNoResident (state_of self.now)) }
+    {
+        self.store.resident_from(slot)
     }
 }

@@ -1,8 +1,10 @@
 //! Handles by name.
 
-ghost use Rattle.std.specs.Prelude.{◌≡◌, OnErr, IfOk, IfSome, IfNone, is_some, option_map};
+ghost use Rattle.std.specs.Prelude.{◌≡◌, ℕ, ◌<◌, ◌≤◌, Some, false, OnErr, IfOk, IfSome, IfNone, is_some, option_map};
 ghost use Rattle.foyer_core.specs.Pieces.{is_in};
+ghost use Rattle.foyer_core.specs.Records.{slot_in};
 ghost use Rattle.foyer_core.specs.Table.{rec_of};
+ghost use Rattle.foyer_core.specs.Values.{Kept};
 
 use super::Store;
 use crate::entry::{Leave, Left};
@@ -15,7 +17,7 @@ use foyer_policy::{Error, Eviction, Key, Place, Properties, Reason, Result, Valu
 impl<E: Eviction, K: Key, V: Value, P: Properties, I: Finder<K>> Store<E, K, V, P, I> {
     ghost use Rattle.foyer_core.specs.Stores.{state_of, meaning_of};
     ghost use Rattle.foyer_core.specs.Bulk.{TakesRecordOut};
-    ghost use Rattle.foyer_core.specs.Holds.{Holds};
+    ghost use Rattle.foyer_core.specs.Holds.{HasNoResident, Holds, NamesResident};
     ghost use Rattle.foyer_core.specs.State.{handles_in};
     ghost use Rattle.foyer_core.specs.Steps.{GivesBack};
 
@@ -73,5 +75,35 @@ impl<E: Eviction, K: Key, V: Value, P: Properties, I: Finder<K>> Store<E, K, V, 
             return None;
         }
         Some(self.take_out(hold.id, slot))
+    }
+
+    /// Names a resident record, as `Shard::resident_from` does.
+    pub fn resident_from(&self, slot: usize) -> Option<Hold>
+        ensures some { IfSome result (NamesResident (state_of self.now)) }
+        ensures none { IfNone result (HasNoResident (state_of self.now)) }
+    {
+        let slots = self.records.count();
+        match self.resident_between(slot, slots) {
+            Some(hold) => Some(hold),
+            None => self.resident_between(0, slots),
+        }
+    }
+
+    // Names the first record that is resident in one of these slots, the last of which is excluded.
+    fn resident_between(&self, first: usize, end: usize) -> Option<Hold>
+        ensures some { IfSome result (NamesResident (state_of self.now)) }
+        ensures none { IfNone result ((n : ℕ) (x : Kept K V P) → first ≤ n → n < end → slot_in self.now.records n ≡ Some x
+            → x.resident ≡ false) }
+    {
+        for slot in first..end {
+            match self.records.get(slot) {
+                Some(found) if found.is_resident() => {
+                    let (hash, id) = (found.hash(), found.id());
+                    return Some(Hold { hash, id, slot });
+                }
+                _ => {}
+            }
+        }
+        None
     }
 }

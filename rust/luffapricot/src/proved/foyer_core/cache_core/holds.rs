@@ -82,4 +82,16 @@ impl<
         self.load.replace(before, after);
         removed
     }
+
+    /// Names a resident record of one shard, if there is one: the first in a slot from `slot` on, or else the first of
+    /// all. With the slot of the last name, removals of all records pass each slot a few times.
+    ///
+    /// It makes no handle, and takes no memory.
+    #[inline]
+    pub fn resident_from(&self, shard: usize, slot: usize) -> Option<Hold> {
+        match self.shards.get(shard) {
+            Some(shard) => shard.resident_from(slot),
+            None => None,
+        }
+    }
 }

@@ -54,4 +54,11 @@ impl<E: Eviction, K: Key, V: Value, P: Properties, N, R, I: Finder<K>> Shard<E, 
     pub fn remove_this(&mut self, hold: Hold) -> Option<Left<K, V, P>> {
         self.store.remove_this(hold)
     }
+
+    /// Names a resident record, if there is one: the first in a slot from `slot` on, or else the first of all. It takes
+    /// no memory, and makes no handle.
+    #[inline]
+    pub fn resident_from(&self, slot: usize) -> Option<Hold> {
+        self.store.resident_from(slot)
+    }
 }

@@ -59,4 +59,29 @@ impl<E: Eviction, K: Key, V: Value, P: Properties, I: Finder<K>> Store<E, K, V, 
         }
         Some(self.take_out(hold.id, slot))
     }
+
+    /// Names a resident record, as `Shard::resident_from` does.
+    #[inline]
+    pub fn resident_from(&self, slot: usize) -> Option<Hold> {
+        let slots = self.records.count();
+        match self.resident_between(slot, slots) {
+            Some(hold) => Some(hold),
+            None => self.resident_between(0, slots),
+        }
+    }
+
+    // Names the first record that is resident in one of these slots, the last of which is excluded.
+    #[inline]
+    fn resident_between(&self, first: usize, end: usize) -> Option<Hold> {
+        for slot in first..end {
+            match self.records.get(slot) {
+                Some(found) if found.is_resident() => {
+                    let (hash, id) = (found.hash(), found.id());
+                    return Some(Hold { hash, id, slot });
+                }
+                _ => {}
+            }
+        }
+        None
+    }
 }
