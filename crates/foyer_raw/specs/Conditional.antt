@@ -1,14 +1,24 @@
 -- Inserts and removals that depend on what a key has.
-use Rattle.std.specs.Prelude.{◌≡◌, ℕ, IfSome, IsTrue, List, Option, Some, None, Result, Ok, Err}
+use Rattle.std.specs.Prelude.{◌≡◌, ◌+◌, ◌⊎◌, ℕ, IfOk, IfSome, IsTrue, List, [], MatchResult, Option, Some, None, Result, Ok, Err, true, false}
+use Rattle.foyer_policy.specs.Properties.{is_phantom}
 use Rattle.foyer_policy.specs.declared.error.Reason.{Reason}
+use Rattle.foyer_policy.specs.declared.error.Reason.TheVariants.{NoMemory}
 use Rattle.foyer_policy.specs.declared.types.Event.{Event}
 use Rattle.foyer_policy.specs.declared.types.Source.TheVariants.{Outer}
 use Rattle.foyer_core.specs.Conditional.{is_current}
-use Rattle.foyer_core.specs.State.{Meaning, State, at_moment}
-use Rattle.foyer_core.specs.Steps.{Inserts, RefusesInsert, newcomer}
+use Rattle.foyer_core.specs.Inflight.{Opens, closed, waiters_of}
+use Rattle.foyer_core.specs.NoEntry.{PutsAnswering, last_of}
+use Rattle.foyer_core.specs.State.{Meaning, State, at_moment, key_of}
+use Rattle.foyer_core.specs.Stats.{counted}
+use Rattle.foyer_core.specs.Steps.{Gets, GivesBack, Inserts, RefusesInsert, entry_of, newcomer}
 use Rattle.foyer_core.specs.Values.{Gone, Held}
+use Rattle.foyer_core.specs.Waited.{AnswersEach, waiting_for}
 use Rattle.foyer_core.specs.declared.outcome.InsertedOnto.{InsertedOnto}
+use Rattle.foyer_core.specs.declared.outcome.PutOnto.{PutOnto}
 use Rattle.foyer_core.specs.declared.record.Data.{Data}
+use Rattle.foyer_core.specs.declared.stats.Counted.TheVariants.{Hit, Miss, Refused}
+use Rattle.foyer_core.specs.declared.stats.Stats.{Stats}
+use Rattle.foyer_raw.specs.Counts.{leaves_counted, put_counted}
 use Rattle.foyer_raw.specs.Told.{IsOf}
 use Rattle.foyer_raw.specs.declared.replaced.Replaced.{Replaced}
 use Rattle.foyer_raw.specs.declared.replaced.Replaced.TheVariants.{Changed, Inserted}
@@ -56,3 +66,49 @@ abbrev pub IfFitting : {X : Type 0} → Result (Option X) Reason → (Result X R
 IfFitting (Ok (Some made)) Q = Q (Ok made)
 IfFitting (Ok None) Q = ⊥
 IfFitting (Err reason) Q = Q (Err reason)
+
+-- the data of a record, copied, with this expiry
+pub record IsAgain {K V P : Type 0} (is_key : K → K → Type 0) (is_value : V → V → Type 0) (are_properties : P → P → Type 0)
+    (with_expiry_of : P → Option ℕ → P) (expires : Option ℕ) (kept again : Data K V P) : Type 0 where
+  pub properties : P
+  pub copied : are_properties kept.properties properties
+  pub expiring : again.properties ≡ with_expiry_of properties expires
+  pub key : is_key kept.key again.key
+  pub value : is_value kept.value again.value
+  pub rest : (again.hash ≡ kept.hash) × (again.weight ≡ kept.weight)
+
+module _ {K V P View C : Type 0} (m : Meaning K P View C) (now : ℕ) where
+  -- the key hits the record of this entry, which is given back at once
+  pub record Uses (k : ℕ × K) (entry : Held K V P) (old new : State K V P View) : Type 0 where
+    pub mid : State K V P View
+    pub gets : Gets m now old k (Ok (Some entry)) mid
+    pub gives_back : GivesBack m mid entry.id None new
+
+  module _ {N R : Type 0} (is_again : Data K V P → Data K V P → Type 0) (k : ℕ × K) where
+    -- The record that the key hits is used, and its data, copied, are put in, which answers this.
+    pub record PutsAgain (put : Result (PutOnto K V P N) Reason) (ls : List (Event × Gone K V P))
+        (old new : State K V P View) (opens opens' : Opens K N R) (stats stats' : Stats) : Type 0 where
+      pub entry : Held K V P
+      pub used : State K V P View
+      pub uses : Uses k entry old used
+      pub kept : Data K V P
+      pub again : is_again entry.kept kept
+      pub puts : PutsAnswering m now used (newcomer used kept (1 + waiting_for opens (key_of kept))) (last_of put) ls new
+      pub answers : IfOk put (λ p. AnswersEach (waiters_of (opens.by_key (key_of kept)))
+          (entry_of used used.next kept Outer) p.answers)
+      pub closes : MatchResult put (λ _. opens' ≡ closed m.same opens (key_of kept)) (λ _. opens' ≡ opens)
+      pub counts : stats' ≡ leaves_counted m.phantom m.expires now ls
+          (put_counted (is_phantom (m.phantom kept.properties)) put (counted Hit stats))
+
+    -- what a look-up and a put of what it hits, with another expiry, answer; F7 comes also where the data can't be copied
+    abbrev pub SetsExpiry : Result (Option (PutOnto K V P N)) Reason → List (Event × Gone K V P) → State K V P View →
+        State K V P View → Opens K N R → Opens K N R → Stats → Stats → Type 0
+    SetsExpiry (Ok None) ls old new opens opens' stats stats' =
+        Gets m now old k (Ok None) new × (ls ≡ []) × (opens' ≡ opens) × (stats' ≡ counted Miss stats)
+    SetsExpiry (Ok (Some put)) ls old new opens opens' stats stats' = PutsAgain (Ok put) ls old new opens opens' stats stats'
+    SetsExpiry (Err reason) ls old new opens opens' stats stats' =
+        PutsAgain (Err reason) ls old new opens opens' stats stats'
+        ⊎ ((ls ≡ []) × (opens' ≡ opens)
+        × ((Gets m now old k (Err reason) new × (stats' ≡ stats))
+        ⊎ ((reason ≡ NoMemory) × ((entry : Held K V P) × Uses k entry old new)
+        × (stats' ≡ counted Refused (counted Hit stats)))))

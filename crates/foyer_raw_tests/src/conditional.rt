@@ -10,6 +10,7 @@ use foyer_policy::{Lru, LruConfig, ModHasher, Source};
 use foyer_raw::{ListSpawner, RawCache, Replaced};
 use std::sync::Wait;
 
+mod expiry;
 mod threads;
 
 // A record with default properties, inserted if the key still has what was seen.

@@ -264,5 +264,12 @@ fn a_value_s_clone_may_be_refused(rt: HostRuntime) -> Outcome {
     let clone = cache.get_cloned(0, &1)?.ok_or("none")?;
     assert!(rt; clone == RefusingKey::new(7, &grants)? && cache.get_cloned(0, &2)?.is_none());
     assert_eq!(rt; (cache.stats().hits, cache.stats().misses), (3, 1));
+    // So it is where the record would be inserted again.
+    assert_eq!(rt; number(cache.set_expires(0, &1, Some(1))), Some(7));
+    assert!(rt; cache.contains(1, &1) && cache.get(0, &1)?.ok_or("none")?.refs() == 1);
+    grants.store(1, Ordering::SeqCst);
+    assert!(rt; cache.set_expires(0, &1, Some(1))? && !cache.contains(1, &1));
+    let stats = cache.stats();
+    assert_eq!(rt; (stats.hits, stats.inserts, stats.refused), (6, 2, 1));
     Ok(())
 }

@@ -4,6 +4,8 @@
 //! call goes on with a harmless result (keys differ, a record isn't admitted), and once no lock is held `resumed` lets the
 //! panic go on in its thread. So no lock is poisoned, and the cache stays whole.
 
+use crate::rattle_std::alloc::AllocError;
+use crate::rattle_std::clone::TryClone;
 use std::any::Any;
 use std::cell::{Cell, RefCell};
 use std::mem::ManuallyDrop;
@@ -248,5 +250,12 @@ impl<T> Drop for Held<T> {
             // SAFETY: nothing uses it after its drop.
             caught(|| unsafe { ManuallyDrop::drop(&mut self.0) });
         }
+    }
+}
+
+impl<T: Clone> TryClone for Held<T> {
+    /// Returns a clone. A panic counts as memory that ran out, until it goes on.
+    fn try_clone(&self) -> Result<Self, AllocError> {
+        caught(|| Held::new(self.get().clone())).ok_or(AllocError)
     }
 }

@@ -4,6 +4,8 @@ use crate::clock::nanoseconds;
 use crate::guard::{Held, caught};
 use crate::proved::foyer_policy;
 use crate::proved::foyer_policy::{Age, Hint, Location};
+use crate::rattle_std::alloc::AllocError;
+use crate::rattle_std::clone::TryClone;
 use std::fmt::Debug;
 use std::num::NonZeroU64;
 use std::time::Duration;
@@ -139,6 +141,12 @@ impl<P> Props<P> {
     /// Returns the user's properties.
     pub(crate) fn user(&self) -> &P {
         self.user.get().as_ref().expect("the default properties panicked when this record was made")
+    }
+}
+
+impl<P: Properties> TryClone for Props<P> {
+    fn try_clone(&self) -> Result<Self, AllocError> {
+        Ok(Props { user: self.user.try_clone()?, ..*self })
     }
 }
 

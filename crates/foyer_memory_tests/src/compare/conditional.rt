@@ -14,7 +14,8 @@ impl<H: Wait + RandomSource + Alloc<A = Global> + Copy + Drop + 'static, E: Evic
             17 if value % 3 > 0 => self.replace_if(Some(place), self.key_at(place, key), value),
             17 => self.replace_if(Some(place), key, value),
             18 => self.insert_if_fits(key, value),
-            _ => self.remove_this(place),
+            19 => self.remove_this(place),
+            _ => self.set_expires(key, (value % 3 > 0).then(|| value / 4 + value % 8)),
         }
     }
 
@@ -96,5 +97,17 @@ impl<H: Wait + RandomSource + Alloc<A = Global> + Copy + Drop + 'static, E: Evic
         };
         self.left.push(Note::Remove(*left.key(), *left.value()))?;
         Ok(is_removed)
+    }
+
+    // A look-up, and a put of what it found with another expiry.
+    fn set_expires(&mut self, key: u32, expires: Option<u64>) -> Outcome<bool> {
+        let is_set = self.cache.set_expires(self.now, &key, expires)?;
+        let found = Kept(self.core.get(self.now, &key)?);
+        let Some(handle) = &found.0 else {
+            return Ok(!is_set);
+        };
+        let (value, properties) = (*handle.value(), handle.properties().clone()?);
+        self.give_back(found)?;
+        Ok(self.put_core(key, value, properties.with_expiry(expires))? && is_set)
     }
 }

@@ -23,9 +23,19 @@ impl<H: Wait + RandomSource + Alloc<A = Global> + Copy + Drop + 'static, E: Evic
     fn put(&mut self, key: u32, value: u64) -> Outcome<bool> {
         self.cache
             .put_with_properties(self.now, key, value, properties(value))?;
+        self.put_core(key, value, properties(value))
+    }
+
+    // The core's put.
+    pub(super) fn put_core(
+        &mut self,
+        key: u32,
+        value: u64,
+        properties: CacheProperties,
+    ) -> Outcome<bool> {
         let made = self
             .core
-            .insert_with_properties(self.now, key, value, properties(value));
+            .insert_with_properties(self.now, key, value, properties);
         let Inserted {
             entry,
             answers,

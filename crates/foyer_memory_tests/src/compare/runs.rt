@@ -47,7 +47,7 @@ where
         state = state
             .wrapping_mul(6364136223846793005)
             .wrapping_add(1442695040888963407);
-        let (pick, key) = (state / (1 << 56) % 20, state / (1 << 32) % 16);
+        let (pick, key) = (state / (1 << 56) % 21, state / (1 << 32) % 16);
         both.now = number / 4 + state / (1 << 40) % 8;
         let agrees = both.step(rt, pick, key as u32, number)? && both.agree();
         assert!(rt; agrees, "call {number}");

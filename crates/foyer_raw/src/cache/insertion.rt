@@ -7,7 +7,7 @@ ghost use Rattle.foyer_core.specs.State.{coming_in};
 ghost use Rattle.foyer_raw.specs.Lives.{living};
 
 use super::RawCache;
-use crate::counted::{At, RawInserted};
+use crate::counted::{At, RawInserted, RawPut};
 use crate::entry::RawCacheEntry;
 use crate::expiry::expiring;
 use crate::fetch::FetchTypes;
@@ -205,15 +205,18 @@ where
         let shards = &self.shares.shared.shards;
         let mut leaves = Vec::new(shards.alloc);
         match shards.put_answering(At::new(now), kept, &mut leaves) {
-            Ok(PutOnto { answers, last }) => {
-                self.shares.answer(answers);
-                self.shares.tell_all(leaves);
-                if let Some(last) = last {
-                    self.shares.tell(last);
-                }
-                Ok(())
-            }
+            Ok(put) => Ok(self.was_put(put, leaves)),
             Err(error) => Err(self.refused(error, leaves)),
+        }
+    }
+
+    // Gives the waiting callers their results, and then tells what left with a put.
+    pub(super) fn was_put(&self, put: RawPut<K, V, P>, leaves: Vec<Leave<K, V, P>>) {
+        let PutOnto { answers, last } = put;
+        self.shares.answer(answers);
+        self.shares.tell_all(leaves);
+        if let Some(last) = last {
+            self.shares.tell(last);
         }
     }
 
@@ -267,7 +270,7 @@ where
     }
 
     // Returns the error of an insert, after what left all the same was reported.
-    fn refused(&self, error: Error, leaves: Vec<Leave<K, V, P>>) -> Error {
+    pub(super) fn refused(&self, error: Error, leaves: Vec<Leave<K, V, P>>) -> Error {
         self.shares.tell_all(leaves);
         error
     }

@@ -9,16 +9,16 @@ ghost use Rattle.foyer_core.specs.Pieces.{is_in};
 ghost use Rattle.foyer_core.specs.State.{key_of};
 ghost use Rattle.foyer_core.specs.Steps.{Gets};
 ghost use Rattle.foyer_core.specs.Waited.{AnswersEach, waiting_for};
-ghost use Rattle.foyer_raw.specs.Conditional.{IfChanged, IfFitting, IfFound, IfInserted, IfInserting, InsertsOnto, StillHas};
+ghost use Rattle.foyer_raw.specs.Conditional.{IfChanged, IfFitting, IfFound, IfInserted, IfInserting, InsertsOnto, IsAgain, SetsExpiry, StillHas};
 ghost use Rattle.foyer_raw.specs.Counts.{leaves_counted, made_counted};
 ghost use Rattle.foyer_raw.specs.Told.{IsOf, IsUntold, taken_out, told_of};
 
 use super::counts::{count_leaves, count_made};
-use super::{At, CountedShard, FIRST, RawInserted};
+use super::{At, CountedShard, FIRST, Hashed, RawInserted, RawPut};
 use crate::leaves::Leaves;
 use crate::replaced::Replaced;
-use foyer_core::{CoreEntry, Finder, Hold, Left, Share};
-use foyer_policy::{Event, Eviction, Key, Properties, Result, Source, Value};
+use foyer_core::{CoreEntry, Counted, Data, Finder, Hold, Leave, Left, Share};
+use foyer_policy::{Error, Event, Eviction, Key, Properties, Reason, Result, Source, Value};
 use std::alloc::Global;
 
 /// What a conditional insert returns that has not failed.
@@ -175,4 +175,65 @@ impl<E: Eviction, K: Key, V: Value, P: Properties, R: Drop, I: Finder<K>> Counte
         self.stats.count_left(FIRST, Event::Remove, &left);
         Some(left)
     }
+
+    /// Looks the key up at a time as `touch` does, and inserts the record that it hits again as `put_answering` does: copies of its
+    /// key, value and properties, with its weight and this expiry. What can't be copied counts as an insert that failed.
+    pub fn set_expires(
+        &mut self,
+        alloc: Global,
+        now: At,
+        key: Hashed<'_, K>,
+        expires: Option<u64>,
+        leaves: &mut Vec<Leave<K, V, P>>,
+    ) -> Result<Option<RawPut<K, V, P>>>
+    where
+        V: Clone,
+        P: Clone,
+        requires clones { (k c : K) → K.is_clone k c → K.eq c k ≡ true }
+        requires untold { leaves.old.items ≡ [] }
+        ensures { SetsExpiry (meaning_of self.old.shard) now.0 (IsAgain K.is_clone V.is_clone P.is_clone P.with_expiry_of expires) key.entry result
+            leaves.new.items (state_of self.old.shard) (state_of self.new.shard) (opens_of self.old.shard) (opens_of self.new.shard) self.old.stats self.new.stats }
+    {
+        let Some(entry) = self.shard.get(now.0, key.hash, key.key)? else {
+            self.stats.count(Counted::Miss);
+            return Ok(None);
+        };
+        self.stats.count(Counted::Hit);
+        let kept = again(alloc, &entry, expires);
+        // The record is resident, so nothing leaves with this handle.
+        drop(self.shard.take_back(&entry));
+        entry.discard();
+        match kept {
+            Some(kept) => Ok(Some(self.put_answering(alloc, now, kept, leaves)?)),
+            None => {
+                self.stats.count(Counted::Refused);
+                Err(Error::new(Reason::NoMemory))
+            }
+        }
+    }
+}
+
+// The data of an entry's record, copied, with this expiry.
+fn again<K: Key, V: Value + Clone, P: Properties + Clone>(
+    alloc: Global,
+    entry: &CoreEntry<K, V, P>,
+    expires: Option<u64>,
+) -> Option<Share<K, V, P>>
+    ensures { IfSome result (IsAgain K.is_clone V.is_clone P.is_clone P.with_expiry_of expires entry.now.kept) }
+{
+    let value = entry.value().clone().ok()?;
+    let key = entry.key().clone().ok()?;
+    let properties = entry.properties().clone().ok()?.with_expiry(expires);
+    let (hash, weight) = (entry.hash(), entry.weight());
+    Share::new(
+        alloc,
+        Data {
+            key,
+            value,
+            properties,
+            hash,
+            weight,
+        },
+    )
+    .ok()
 }

@@ -1,6 +1,6 @@
 //! Calls on one shard. Each locks the shard of its key's hash, makes one step of `CountedShard`, and unlocks.
 
-ghost use Rattle.std.specs.Prelude.{◌≡◌, IfOk, IfSome, None, false, true};
+ghost use Rattle.std.specs.Prelude.{◌≡◌, [], IfOk, IfSome, None, false, true};
 ghost use Rattle.std.specs.Fn.{FnOnceReturnsAt};
 ghost use Rattle.foyer_policy.specs.Moments.{is_expired};
 ghost use Rattle.foyer_core.specs.Looks.{IfHit};
@@ -186,6 +186,23 @@ where
     {
         self.lock(kept.hash())
             .insert_if_fits(self.alloc, now, kept, leaves)
+    }
+
+    pub(crate) fn set_expires(
+        &self,
+        now: At,
+        key: Hashed<'_, K>,
+        expires: Option<u64>,
+        leaves: &mut Vec<Leave<K, V, P>>,
+    ) -> Result<Option<RawPut<K, V, P>>>
+    where
+        V: Clone,
+        P: Clone,
+        requires clones { (k c : K) → K.is_clone k c → K.eq c k ≡ true }
+        requires untold { leaves.old.items ≡ [] }
+    {
+        self.of(&key)
+            .set_expires(self.alloc, now, key, expires, leaves)
     }
 
     pub(crate) fn remove_this(&self, core: &CoreEntry<K, V, P>) -> Option<Left<K, V, P>> {

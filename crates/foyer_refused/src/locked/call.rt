@@ -23,6 +23,7 @@ pub enum Call {
     /// Nothing is seen of a key that has a record.
     Changed(u64),
     Fit(u64, usize),
+    SetExpires(u64),
     Phantom(u64),
     Piece(u64),
     Get(u64),
@@ -100,6 +101,7 @@ pub fn make<H: Runtime>(
         Call::Insert(..) | Call::Phantom(_) | Call::Piece(_) => return inserted(cx, locked, call),
         Call::Replace(..) | Call::Fit(..) => return conditional(cx, locked, call),
         Call::Put(..) | Call::PutPhantom(_) => return put(cx, locked, call),
+        Call::SetExpires(key) => return Ok(yes(cache.set_expires(0, &key, Some(1))?)),
         _ => return found(locked, call),
     }
     Ok(Answer::Done)

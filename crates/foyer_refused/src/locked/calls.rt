@@ -27,6 +27,7 @@ pub fn row(name: &str) -> Option<(Filled, Call)> {
         "locked_replace_if_changed" => (ROOMY, Call::Changed(5)),
         "locked_insert_if_fits" => (FULL, Call::Fit(FETCHED, 10)),
         "locked_insert_if_full" => (FULL, Call::Fit(FETCHED, 13)),
+        "locked_set_expires" => (ROOMY, Call::SetExpires(5)),
         "locked_phantom" => (ROOMY, Call::Phantom(5)),
         "locked_resident_piece" => (ROOMY, Call::Piece(5)),
         "locked_piece_comes_back" => (ROOMY, Call::Piece(11)),
@@ -79,6 +80,7 @@ pub fn wanted(filled: Filled, call: Call, victims: &'static [u64; 10]) -> Wanted
             refs: if filled.waits { 2 } else { 1 },
             ..of_insert(filled, Call::Insert(key, weight), victims)
         },
+        Call::SetExpires(key) => of_insert(filled, Call::Insert(key, 1), victims),
         Call::Fit(_, 13) => same,
         Call::Replace(key, weight) | Call::Fit(key, weight) => {
             of_insert(filled, Call::Insert(key, weight), victims)

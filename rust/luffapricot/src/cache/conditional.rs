@@ -4,12 +4,13 @@ use super::{Cache, refused};
 use crate::entry::CacheEntry;
 use crate::error::Result;
 use crate::guard::{Held, resumed};
-use crate::key::Name;
+use crate::key::{Equivalent, Name};
 use crate::properties::{Properties, Props};
 use crate::proved::foyer_policy;
 use crate::proved::foyer_raw::Replaced;
 use crate::rules::{Key, Value};
-use std::hash::BuildHasher;
+use std::hash::{BuildHasher, Hash};
+use std::time::Duration;
 
 impl<K, V, S, P> Cache<K, V, S, P>
 where
@@ -140,5 +141,48 @@ where
     /// ```
     pub fn remove_this(&self, entry: &CacheEntry<K, V, S, P>) -> bool {
         resumed(|| self.inner.remove_this(entry.inner()))
+    }
+
+    /// Gives the key's record another time to live, from now on (`None`: it never expires), and returns whether a `get` finds one,
+    /// which counts as a use. All of it is one step, under one lock.
+    ///
+    /// The record is inserted again, with its weight, its properties and clones of its key and value, which are made under the lock.
+    /// So the old one leaves as `Replace`, and a full shard may evict another one. What the properties say of the time to live stays.
+    ///
+    /// ```
+    /// use std::time::Duration;
+    ///
+    /// let sessions: luffapricot::Cache<&str, u32> = luffapricot::Cache::builder(100).build();
+    /// sessions.put("ann", 1);
+    /// assert!(sessions.set_time_to_live("ann", Some(Duration::ZERO)) && !sessions.contains("ann"));
+    /// assert!(!sessions.set_time_to_live("ann", None));
+    /// ```
+    ///
+    /// # Panics
+    /// If memory runs out, or a count is full. See `try_set_time_to_live`.
+    pub fn set_time_to_live<Q: Hash + Equivalent<K> + ?Sized>(&self, key: &Q, time_to_live: Option<Duration>) -> bool
+    where
+        V: Clone,
+    {
+        self.expire_inner(key, time_to_live).unwrap_or_else(|error| refused(error))
+    }
+
+    /// Gives the key's record another time to live, as `set_time_to_live` does.
+    ///
+    /// # Errors
+    /// F9 if the handle count would overflow, and those of `try_insert`.
+    pub fn try_set_time_to_live<Q: Hash + Equivalent<K> + ?Sized>(&self, key: &Q, time_to_live: Option<Duration>) -> Result<bool>
+    where
+        V: Clone,
+    {
+        Ok(self.expire_inner(key, time_to_live)?)
+    }
+
+    fn expire_inner<Q: Hash + Equivalent<K> + ?Sized>(&self, key: &Q, time_to_live: Option<Duration>) -> foyer_policy::Result<bool>
+    where
+        V: Clone,
+    {
+        let expires = self.clock.expiry(time_to_live);
+        self.ask(key, |name| self.inner.set_expires(self.clock.now(), name, expires))
     }
 }

@@ -97,6 +97,32 @@ where
         }
     }
 
+    /// Inserts the record that a `get` at `now` finds again as `put` does, with another expiry (`None`: never, whatever the time to
+    /// live) and a clone of its value, made under the shard's lock. Returns whether there is one. This counts as a use.
+    ///
+    /// The old record leaves as `Replace`, unless the insert evicts it. Weigher and filter aren't asked. All of it is one step, under
+    /// one lock.
+    ///
+    /// # Errors
+    /// F9 if the handle count would pass its limit; after the use those of `insert_with_properties`, F7 also if a clone fails.
+    #[inline]
+    pub fn set_expires(&self, now: u64, key: &K, expires: Option<u64>) -> Result<bool>
+    where
+        V: TryClone,
+        P: TryClone,
+    {
+        let shards = &self.shares.shared.shards;
+        let mut leaves = Vec::new(shards.alloc);
+        match shards.set_expires(At::new(now), self.hashed(key), expires, &mut leaves) {
+            Ok(Some(put)) => {
+                self.was_put(put, leaves);
+                Ok(true)
+            }
+            Ok(None) => Ok(false),
+            Err(error) => Err(self.refused(error, leaves)),
+        }
+    }
+
     /// Removes the entry's record, expired or not, if its key still has it, and returns whether it had. The listener is told of
     /// it as `Remove`. The entry stays held.
     ///

@@ -4,7 +4,7 @@
 #[allow(unused_imports)]
 use crate::rattle_std::prelude::*;
 use super::RawCache;
-use crate::proved::foyer_raw::counted::{At, RawInserted};
+use crate::proved::foyer_raw::counted::{At, RawInserted, RawPut};
 use crate::proved::foyer_raw::entry::RawCacheEntry;
 use crate::proved::foyer_raw::expiry::expiring;
 use crate::proved::foyer_raw::fetch::FetchTypes;
@@ -171,15 +171,19 @@ where
         let shards = &self.shares.shared.shards;
         let mut leaves = Vec::new(shards.alloc);
         match shards.put_answering(At::new(now), kept, &mut leaves) {
-            Ok(PutOnto { answers, last }) => {
-                self.shares.answer(answers);
-                self.shares.tell_all(leaves);
-                if let Some(last) = last {
-                    self.shares.tell(last);
-                }
-                Ok(())
-            }
+            Ok(put) => Ok(self.was_put(put, leaves)),
             Err(error) => Err(self.refused(error, leaves)),
+        }
+    }
+
+    // Gives the waiting callers their results, and then tells what left with a put.
+    #[inline]
+    pub(crate) fn was_put(&self, put: RawPut<K, V, P>, leaves: Vec<Leave<K, V, P>>) {
+        let PutOnto { answers, last } = put;
+        self.shares.answer(answers);
+        self.shares.tell_all(leaves);
+        if let Some(last) = last {
+            self.shares.tell(last);
         }
     }
 
@@ -232,7 +236,7 @@ where
 
     // Returns the error of an insert, after what left all the same was reported.
     #[inline]
-    fn refused(&self, error: Error, leaves: Vec<Leave<K, V, P>>) -> Error {
+    pub(crate) fn refused(&self, error: Error, leaves: Vec<Leave<K, V, P>>) -> Error {
         self.shares.tell_all(leaves);
         error
     }

@@ -4,11 +4,11 @@
 #[allow(unused_imports)]
 use crate::rattle_std::prelude::*;
 use super::counts::{count_leaves, count_made};
-use super::{At, CountedShard, FIRST, RawInserted};
+use super::{At, CountedShard, FIRST, Hashed, RawInserted, RawPut};
 use crate::proved::foyer_raw::leaves::Leaves;
 use crate::proved::foyer_raw::replaced::Replaced;
-use crate::proved::foyer_core::{CoreEntry, Finder, Hold, Left, Share};
-use crate::proved::foyer_policy::{Event, Eviction, Key, Properties, Result, Source, Value};
+use crate::proved::foyer_core::{CoreEntry, Counted, Data, Finder, Hold, Leave, Left, Share};
+use crate::proved::foyer_policy::{Error, Event, Eviction, Key, Properties, Reason, Result, Source, Value};
 use crate::rattle_std::alloc::Global;
 
 /// What a conditional insert returns that has not failed.
@@ -103,4 +103,61 @@ impl<E: Eviction, K: Key, V: Value, P: Properties, R, I: Finder<K>> CountedShard
         self.stats.count_left(FIRST, Event::Remove, &left);
         Some(left)
     }
+
+    /// Looks the key up at a time as `touch` does, and inserts the record that it hits again as `put_answering` does: copies of its
+    /// key, value and properties, with its weight and this expiry. What can't be copied counts as an insert that failed.
+    #[inline]
+    pub fn set_expires(
+        &mut self,
+        alloc: Global,
+        now: At,
+        key: Hashed<'_, K>,
+        expires: Option<u64>,
+        leaves: &mut Vec<Leave<K, V, P>>,
+    ) -> Result<Option<RawPut<K, V, P>>>
+    where
+        V: TryClone,
+        P: TryClone,
+    {
+        let Some(entry) = self.shard.get(now.0, key.hash, key.key)? else {
+            self.stats.count(Counted::Miss);
+            return Ok(None);
+        };
+        self.stats.count(Counted::Hit);
+        let kept = again(alloc, &entry, expires);
+        // The record is resident, so nothing leaves with this handle.
+        drop(self.shard.take_back(&entry));
+        entry.discard();
+        match kept {
+            Some(kept) => Ok(Some(self.put_answering(alloc, now, kept, leaves)?)),
+            None => {
+                self.stats.count(Counted::Refused);
+                Err(Error::new(Reason::NoMemory))
+            }
+        }
+    }
+}
+
+// The data of an entry's record, copied, with this expiry.
+#[inline]
+fn again<K: Key, V: Value + TryClone, P: Properties + TryClone>(
+    alloc: Global,
+    entry: &CoreEntry<K, V, P>,
+    expires: Option<u64>,
+) -> Option<Share<K, V, P>> {
+    let value = entry.value().try_clone().ok()?;
+    let key = entry.key().try_clone().ok()?;
+    let properties = entry.properties().try_clone().ok()?.with_expiry(expires);
+    let (hash, weight) = (entry.hash(), entry.weight());
+    Share::new(
+        alloc,
+        Data {
+            key,
+            value,
+            properties,
+            hash,
+            weight,
+        },
+    )
+    .ok()
 }
