@@ -11,7 +11,7 @@ use crate::proved::foyer_policy::error::{Error, Field, Reason, Result};
 use crate::proved::foyer_policy::eviction::Eviction;
 use crate::proved::foyer_policy::limit::{Range, check_ratio, limit_of};
 use crate::proved::foyer_policy::lists::Place;
-use crate::proved::foyer_policy::queued::{Queued, append_items};
+use crate::proved::foyer_policy::queued::{ItemState, Queued, append_items};
 use crate::proved::foyer_policy::types::{Hint, Item, Ratio};
 use pools::{HIGH, LOW, Node, PIN, drain, relist, settle};
 use crate::rattle_std::serde::{Deserialize, Serialize};
@@ -42,6 +42,14 @@ impl Default for LruConfig {
 pub struct LruState {
     high: bool,
     pinned: bool,
+}
+
+// Each call sets another state, so none are compared.
+impl ItemState for LruState {
+    #[inline(always)]
+    fn is(&self, _other: &Self) -> bool {
+        false
+    }
 }
 
 /// Least recently used, with a pool of high priority and with pins, as in `foyer-memory`.

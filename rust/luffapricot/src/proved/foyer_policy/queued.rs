@@ -19,6 +19,12 @@ pub(crate) trait HasItem {
     fn set_slot(&mut self, slot: usize);
 }
 
+/// What a policy keeps beside an item.
+pub(crate) trait ItemState: Copy {
+    /// Returns true only if the states are equal.
+    fn is(&self, other: &Self) -> bool;
+}
+
 impl HasItem for Kept {
     #[inline(always)]
     fn item(&self) -> Item {
@@ -95,17 +101,20 @@ impl<S> Queued<S> {
     }
 }
 
-impl<S: Copy> Queued<S> {
+impl<S: ItemState> Queued<S> {
     /// Returns the state.
     #[inline(always)]
     pub(crate) fn state(&self) -> S {
         self.state
     }
 
-    /// Sets the state. The item stays.
+    /// Sets the state. The item stays. A state that is there isn't written again, which would take the node away from
+    /// other processors that read it.
     #[inline(always)]
     pub(crate) fn set_state(&mut self, state: S) {
-        self.state = state;
+        if !self.state.is(&state) {
+            self.state = state;
+        }
     }
 }
 

@@ -8,7 +8,7 @@ use crate::proved::foyer_policy::due::first_of_lists;
 use crate::proved::foyer_policy::error::{Error, Reason, Result};
 use crate::proved::foyer_policy::eviction::Eviction;
 use crate::proved::foyer_policy::lists::Place;
-use crate::proved::foyer_policy::queued::{Queued, append_items};
+use crate::proved::foyer_policy::queued::{ItemState, Queued, append_items};
 use crate::proved::foyer_policy::types::Item;
 use crate::rattle_std::serde::{Deserialize, Serialize};
 use crate::rattle_std::alloc::Global;
@@ -21,6 +21,13 @@ pub struct SieveConfig;
 #[derive(Clone, Copy, Debug, Default)]
 pub struct SieveState {
     visited: bool,
+}
+
+impl ItemState for SieveState {
+    #[inline(always)]
+    fn is(&self, other: &Self) -> bool {
+        self.visited == other.visited
+    }
 }
 
 type Node = Queued<SieveState>;

@@ -36,8 +36,9 @@ const FIRST: u64 = 0;
 ///
 /// Contracts see its `shard`, by the definitions of foyer_core, and its `stats`.
 pub struct CountedShard<E: Eviction, K: Key, V: Value, P: Properties, R, I: Finder<K>> {
-    shard: RawShard<E, K, V, P, R, I>,
+    // First, on the cache line of the lock: each look-up writes both.
     stats: Stats,
+    shard: RawShard<E, K, V, P, R, I>,
     // Where an insert puts what leaves, so that its room is used again.
     left: Vec<Leave<K, V, P>>,
     // Padding, so that what an insert writes never shares a cache line, or a pair of lines, with the next shard's lock.
@@ -49,8 +50,8 @@ impl<E: Eviction, K: Key, V: Value, P: Properties, R, I: Finder<K>> CountedShard
     #[inline]
     pub fn new(alloc: Global, shard: RawShard<E, K, V, P, R, I>) -> Self {
         CountedShard {
-            shard,
             stats: Stats::default(),
+            shard,
             left: Vec::new(alloc),
             apart: [0; 16],
         }

@@ -5,9 +5,9 @@
 use crate::rattle_std::prelude::*;
 use super::DatedLists;
 use crate::proved::foyer_policy::lists::Place;
-use crate::proved::foyer_policy::queued::Queued;
+use crate::proved::foyer_policy::queued::{ItemState, Queued};
 
-impl<S: Copy, const N: usize> DatedLists<Queued<S>, N> {
+impl<S: ItemState, const N: usize> DatedLists<Queued<S>, N> {
     /// Sets the state of the value at a place; its item stays. The place must have a value.
     #[inline(always)]
     pub(crate) fn set_state(&mut self, place: Place, state: S) {

@@ -6,7 +6,7 @@ use crate::rattle_std::prelude::*;
 use crate::proved::foyer_policy::dated_lists::DatedLists;
 use crate::proved::foyer_policy::ghost_queue::GhostQueue;
 use crate::proved::foyer_policy::lists::Place;
-use crate::proved::foyer_policy::queued::Queued;
+use crate::proved::foyer_policy::queued::{ItemState, Queued};
 use crate::proved::foyer_policy::types::Item;
 
 // The numbers of the two lists.
@@ -22,6 +22,13 @@ pub(crate) const MOST: u8 = 3;
 pub struct S3FifoState {
     pub(crate) frequency: u8,
     pub(crate) is_main: bool,
+}
+
+impl ItemState for S3FifoState {
+    #[inline(always)]
+    fn is(&self, other: &Self) -> bool {
+        self.frequency == other.frequency && self.is_main == other.is_main
+    }
 }
 
 pub(crate) type Node = Queued<S3FifoState>;
