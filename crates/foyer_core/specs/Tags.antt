@@ -11,6 +11,10 @@ slots_of t slot = part_of (tag_in t.buckets) (size_of t.buckets) slot
 abbrev pub HasRoomForTags : Tags → ℕ → Type 0
 HasRoomForTags t more = t.end + more ≤ size_of t.buckets
 
+-- the homes are enough for so many more
+abbrev pub HasHomesFor : Tags → ℕ → Type 0
+HasHomesFor t more = t.len + more ≤ t.limit
+
 -- how many slots are in
 abbrev pub len_of : Tags → ℕ
 len_of t = t.len

@@ -1,6 +1,6 @@
 //! How a shard finds the slot of a key. The shard says which slot has which key, so a finder needn't keep keys.
 
-ghost use Rattle.std.specs.Prelude.{◌≡◌, ◌≢◌, ℕ, Bool, Some, None, IfErr, OnOk, OnErr, true};
+ghost use Rattle.std.specs.Prelude.{◌≡◌, ◌≢◌, ℕ, Bool, Some, None, IfErr, IsOk, OnOk, OnErr, true};
 ghost use Rattle.std.specs.Map.{update};
 ghost use Rattle.foyer_policy.specs.declared.error.Reason.TheVariants.{NoMemory};
 
@@ -23,6 +23,9 @@ pub trait Finder<K: Key>: Drop {
 
     // the slot under a hashed key
     ghost view: { Self → (ℕ × K) → Option ℕ };
+
+    // a key can be put at this slot with no allocation
+    ghost has_room: { Self → ℕ → Type 0 };
 
     /// Creates a finder with no keys.
     fn empty(alloc: Global) -> Self
@@ -48,6 +51,7 @@ pub trait Finder<K: Key>: Drop {
         ensures view { OnOk result ((q : ℕ × K) →
             view self.new q ≡ update (same_key K.eq) (view self.old) (hash, key.now) (Some slot) q) }
         ensures refused { IfErr result (λ e. e ≡ NoMemory) }
+        ensures granted { has_room self.old slot → IsOk result }
         ensures err { OnErr result ((q : ℕ × K) → view self.new q ≡ view self.old q) };
 
     /// Removes a key that leads to this slot. Takes no memory.

@@ -4,7 +4,7 @@
 //! what runs over, so no probe wraps round. A removal moves the tags behind it back, so it leaves no marker (Knuth,
 //! The Art of Computer Programming, volume 3, section 6.4, algorithm R).
 
-ghost use Rattle.std.specs.Prelude.{◌≡◌, ℕ, ◌+◌, ◌-◌, ◌^◌, ◌<◌, ◌≤◌, Some, None, true, false, IfSome, IfNone, IfOk, OnOk, OnErr, IsTrue, ◌↔◌, nat_eq};
+ghost use Rattle.std.specs.Prelude.{◌≡◌, ℕ, ◌+◌, ◌-◌, ◌^◌, ◌<◌, ◌≤◌, Some, None, true, false, IfSome, IfNone, IfOk, OnOk, OnErr, IsOk, IsTrue, ◌↔◌, nat_eq};
 ghost use Rattle.std.specs.Bool.{OnTrue, OnFalse};
 ghost use Rattle.std.specs.Map.{update};
 ghost use Rattle.foyer_core.specs.Probing.{fingerprint, named, tag_in, size_of, count_in, IsProbed, IsProbed-prop, IsOnce, IsBefore};
@@ -43,7 +43,7 @@ pub struct Tags {
 }
 
 impl Tags {
-    ghost use Rattle.foyer_core.specs.Tags.{slots_of, len_of, HasRoomForTags};
+    ghost use Rattle.foyer_core.specs.Tags.{slots_of, len_of, HasRoomForTags, HasHomesFor};
 
     /// Creates an index with no slots. Takes no memory.
     pub fn new(alloc: Global) -> Self
@@ -95,6 +95,7 @@ impl Tags {
         ensures slots { (s : ℕ) → slots_of self.new s ≡ slots_of self.old s }
         ensures len { len_of self.new ≡ len_of self.old }
         ensures err { OnErr result ((n : ℕ) → HasRoomForTags self.old n → HasRoomForTags self.new n) }
+        ensures granted { HasRoomForTags self.old more → HasHomesFor self.old more → IsOk result }
     {
         if self.has_room(more) {
             return Ok(());
@@ -105,7 +106,8 @@ impl Tags {
     // Whether so many more slots have room in these buckets, and these homes are enough for them.
     #[inline(always)]
     fn has_room(&self, more: usize) -> bool
-        ensures { OnTrue result (HasRoomForTags self.now more) }
+        ensures room { OnTrue result (HasRoomForTags self.now more) }
+        ensures granted { HasRoomForTags self.now more → HasHomesFor self.now more → IsTrue result }
     {
         let Some(wanted) = self.end.checked_add(more) else {
             return false;

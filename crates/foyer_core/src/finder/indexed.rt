@@ -25,6 +25,9 @@ impl<I: Drop> From<I> for Indexed<I> {
 impl<K: Key, I: Indexer<K>> Finder<K> for Indexed<I> {
     ghost view = { λ s. I.view s.index };
 
+    // the clone of a key may be refused at any time
+    ghost has_room = { λ _ _. ⊥ };
+
     ghost respects = { λ s p q same. I.respects s.index p q same };
 
     fn empty(alloc: Global) -> Self {

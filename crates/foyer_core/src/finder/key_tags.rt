@@ -1,10 +1,10 @@
 //! Tags, and which slot each key leads to.
 
-ghost use Rattle.std.specs.Prelude.{◌≡◌, ◌≢◌, ℕ, Bool, ◌-◌, ◌^◌, ◌<◌, Some, None, IfErr, OnOk, OnErr};
+ghost use Rattle.std.specs.Prelude.{◌≡◌, ◌≢◌, ℕ, Bool, ◌-◌, ◌^◌, ◌<◌, Some, None, IfErr, IsOk, OnOk, OnErr};
 ghost use Rattle.std.specs.Map.{update};
 ghost use Rattle.foyer_policy.specs.declared.error.Reason.TheVariants.{NoMemory};
 ghost use Rattle.foyer_core.specs.Indexer.{same_key};
-ghost use Rattle.foyer_core.specs.Tags.{slots_of};
+ghost use Rattle.foyer_core.specs.Tags.{slots_of, HasRoomForTags, HasHomesFor};
 ghost use Rattle.foyer_core.specs.Trails.{led, keyed, IsTagged, IsTagged-prop};
 
 use crate::finder::trail::Trail;
@@ -56,6 +56,7 @@ impl<K: Key> KeyTags<K> {
             ≡ update (same_key K.eq) (led K.eq self.old.trail) (hash, key.value) (Some slot) q) }
         ensures refused { IfErr result (λ e. e ≡ NoMemory) }
         ensures err { OnErr result ((q : ℕ × K) → led K.eq self.new.trail q ≡ led K.eq self.old.trail q) }
+        ensures granted { HasRoomForTags self.old.tags 1 → HasHomesFor self.old.tags 1 → IsOk result }
     {
         if self.tags.reserve(1).is_err() {
             return Err(Error::new(Reason::NoMemory));

@@ -1,9 +1,10 @@
 //! A finder over tags.
 
-ghost use Rattle.std.specs.Prelude.{◌≡◌, ◌≢◌, ℕ, ◌≤◌, ◌-◌, ◌^◌, ◌<◌, Some, None, IfErr, OnOk, OnErr, true};
+ghost use Rattle.std.specs.Prelude.{◌≡◌, ◌≢◌, ℕ, ◌≤◌, ◌-◌, ◌^◌, ◌<◌, Some, None, IfErr, IsOk, OnOk, OnErr, true};
 ghost use Rattle.std.specs.Map.{update};
 ghost use Rattle.foyer_policy.specs.declared.error.Reason.TheVariants.{NoMemory};
 ghost use Rattle.foyer_core.specs.Indexer.{same_key};
+ghost use Rattle.foyer_core.specs.Tags.{HasRoomForTags, HasHomesFor};
 ghost use Rattle.foyer_core.specs.Trails.{led, either};
 
 use crate::finder::Finder;
@@ -40,6 +41,7 @@ impl<K: Key, I: Indexer<K>> TagFinder<K, I> {
         ensures refused { IfErr result (λ e. e ≡ NoMemory) }
         ensures err { OnErr result ((q : ℕ × K) → either (led K.eq self.new.near.trail) (I.view self.new.far) q
             ≡ either (led K.eq self.old.near.trail) (I.view self.old.far) q) }
+        ensures granted { HasRoomForTags self.old.near.tags 1 → HasHomesFor self.old.near.tags 1 → IsOk result }
     {
         let Some(was) = was else {
             return self.near.insert(hash, Snapshot::of(key), slot);
@@ -81,6 +83,8 @@ impl<K: Key, I: Indexer<K>> Finder<K> for TagFinder<K, I> {
     ghost use Rattle.foyer_core.specs.Trails.{led_same, either_same};
 
     ghost view = { λ s. either (led K.eq s.near.trail) (I.view s.far) };
+
+    ghost has_room = { λ s slot. (slot < 2 ^ 32 - 1) × HasRoomForTags s.near.tags 1 × HasHomesFor s.near.tags 1 };
 
     ghost respects = { λ s p q same. either_same (led K.eq s.near.trail) (I.view s.far) p q
         (led_same K.Eq.laws s.near.trail p q same) (I.respects s.far p q same) };

@@ -9,7 +9,7 @@ ghost use Rattle.foyer_policy.specs.declared.types.Item.{Item};
 ghost use Rattle.foyer_core.specs.Values.{Kept, Rec, incoming_of};
 ghost use Rattle.foyer_core.specs.Steps.{outside};
 ghost use Rattle.foyer_core.specs.Table.{rec_of, slot_outside};
-ghost use Rattle.foyer_core.specs.Records.{slot_in, record_in, number_of, HasRoom};
+ghost use Rattle.foyer_core.specs.Records.{slot_in, record_in, number_of, slot_to, HasRoom};
 
 use super::Store;
 use crate::entry::Left;
@@ -41,6 +41,7 @@ impl<E: Eviction, K: Key, V: Value, P: Properties, I: Finder<K>> Store<E, K, V, 
             → usage_of (meaning_of self.old) last + slot.kept.weight < 2 ^ 64 }
         ensures admitted { IfSome result (λ made. Admits (meaning_of self.old) (state_of self.old) (incoming_of slot) made.1 (state_of self.new)) }
         ensures none { IfNone result (state_of self.new ≡ state_of self.old) }
+        ensures granted { I.has_room self.old.index (slot_to self.old.records (number_of self.old.records slot.id)) → IsSome result }
     {
         let hash = slot.hash();
         let weight = slot.weight();

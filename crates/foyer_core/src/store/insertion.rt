@@ -1,12 +1,12 @@
 //! Inserts of new records.
 
-ghost use Rattle.std.specs.Prelude.{◌≡◌, ◌+◌, ◌<◌, ◌≤◌, ◌^◌, Some, None, OnOk, IfOk, MatchOption, MatchResult, replicate, true, false, vec_len, vec_capacity};
+ghost use Rattle.std.specs.Prelude.{◌≡◌, ◌+◌, ◌<◌, ◌≤◌, ◌^◌, Some, None, OnOk, IfOk, IsOk, MatchOption, MatchResult, replicate, true, false, vec_len, vec_capacity};
 ghost use Rattle.foyer_policy.specs.Properties.{is_phantom};
 ghost use Rattle.foyer_policy.specs.declared.types.Source.{Source};
 ghost use Rattle.foyer_policy.specs.declared.error.Reason.TheVariants.{NoMemory};
 ghost use Rattle.foyer_core.specs.Looks.{whole};
 ghost use Rattle.foyer_core.specs.Values.{Rec, incoming_of};
-ghost use Rattle.foyer_core.specs.Records.{HasRoom};
+ghost use Rattle.foyer_core.specs.Records.{HasAllRoom, HasRoom};
 
 use super::Store;
 use crate::entry::{CoreEntry, Leave, discard_all};
@@ -260,14 +260,29 @@ impl<E: Eviction, K: Key, V: Value, P: Properties, I: Finder<K>> Store<E, K, V, 
         ensures room { OnOk result (HasRoom self.new.records) }
         ensures places { OnOk result (HasPlaces self.new) }
     {
+        self.make_room(leaves)?;
+        slot.come_in()
+    }
+
+    // Makes room for one record and for what leaves. F7 only if there wasn't all of it.
+    #[inline(always)]
+    fn make_room(&mut self, leaves: &mut Vec<Leave<K, V, P>>) -> Result<()>
+        ensures same { state_of self.new ≡ state_of self.old }
+        ensures leaves { leaves.new.items ≡ leaves.old.items }
+        ensures leaves_room { OnOk result (vec_len leaves.new < vec_capacity leaves.new) }
+        ensures room { OnOk result (HasRoom self.new.records) }
+        ensures places { OnOk result (HasPlaces self.new) }
+        ensures granted { HasAllRoom self.old.records → HasPlaces self.old → vec_len leaves.old + 2 ≤ vec_capacity leaves.old → IsOk result }
+    {
         self.records.reserve()?;
         let Some(places) = self.records.count().checked_add(1) else {
+            // The span is a `usize`, and so not above the count.
+            let _ = self.eviction.span();
             return Err(Error::new(Reason::NoMemory));
         };
         self.eviction.reserve_to(places)?;
         // Mostly one leaves, and one more may be replaced.
         leaves.reserve(2)?;
-        slot.come_in()?;
         Ok(())
     }
 }

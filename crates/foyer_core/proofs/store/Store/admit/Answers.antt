@@ -10,7 +10,7 @@ use Rattle.foyer_core.specs.Stores.{meaning_of}
 use Rattle.foyer_core.specs.State.{key_of, item_of}
 use Rattle.foyer_core.specs.Stored.{state}
 use Rattle.foyer_core.specs.Table.{rec_of}
-use Rattle.foyer_core.specs.Records.{slot_in, number_of, record_in}
+use Rattle.foyer_core.specs.Records.{slot_in, slot_to, number_of, record_in}
 use Rattle.foyer_core.proofs.Counting.{entries_below}
 use Rattle.foyer_core.proofs.Holdings.{holding}
 use Rattle.foyer_core.proofs.AdmitLemmas.{Admitted, coming_rec, led_not, no_item, reindexed}
@@ -45,6 +45,13 @@ returns-in_default-clause-none g c =
     let back = reindexed (meaning_of s) g.met.K.Eq.laws g.met.E.Eviction.lawful (holding s)
     (g.I.Finder.view c.put.new.self) c.in_default.ensures.err in
     back.same0
+
+pub returns-in_default-clause-granted : goal.returns-in_default-clause-granted
+returns-in_default-clause-granted g c room =
+    let s = c.args.self.now in
+    let at : c.slot_for-number.result ≡ slot_to s.records (number_of s.records c.args.slot.id) = c.slot_for-number.ensures.slot
+    ∙ ap (slot_to s.records) (c.stands-stands.ensures ∙ ap (number_of s.records) c.id-id.ensures) in
+    c.in_default.ensures.granted (subst (g.I.Finder.has_room s.index) (sym at) room)
 
 pub give_way-gone-requires : goal.give_way-gone-requires
 give_way-gone-requires g c =

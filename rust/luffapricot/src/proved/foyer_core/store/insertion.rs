@@ -171,14 +171,22 @@ impl<E: Eviction, K: Key, V: Value, P: Properties, I: Finder<K>> Store<E, K, V, 
     // Makes room for one record and for what leaves. The slot gets the share that it leaves with.
     #[inline(always)]
     fn prepare(&mut self, slot: &mut Slot<K, V, P>, leaves: &mut Vec<Leave<K, V, P>>) -> Result<()> {
+        self.make_room(leaves)?;
+        slot.come_in()
+    }
+
+    // Makes room for one record and for what leaves. F7 only if there wasn't all of it.
+    #[inline(always)]
+    fn make_room(&mut self, leaves: &mut Vec<Leave<K, V, P>>) -> Result<()> {
         self.records.reserve()?;
         let Some(places) = self.records.count().checked_add(1) else {
+            // The span is a `usize`, and so not above the count.
+            let _ = self.eviction.span();
             return Err(Error::new(Reason::NoMemory));
         };
         self.eviction.reserve_to(places)?;
         // Mostly one leaves, and one more may be replaced.
         leaves.reserve(2)?;
-        slot.come_in()?;
         Ok(())
     }
 }

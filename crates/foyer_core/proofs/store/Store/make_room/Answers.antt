@@ -2,7 +2,7 @@ use Rattle.std.proofs.Common.{refl}
 use Rattle.foyer_core.specs.Stores.{meaning_of}
 use Rattle.foyer_core.proofs.Holdings.{holding}
 use Rattle.foyer_core.proofs.Reserving.{reserved_stored, reserved_same, reserved_kept}
-use Rattle.foyer_core.proofs.store.Store.prepare.Goals as goal
+use Rattle.foyer_core.proofs.store.Store.make_room.Goals as goal
 
 pub invariant_of-self : goal.invariant_of-self
 invariant_of-self g c =
@@ -46,11 +46,6 @@ invariant_of-self-2 g c =
       counted = rw c.reserve_to.ensures.view s.counted;
       numbered = s.numbered;
     }
-
-pub returns-in_err-come_in-clause-same : goal.returns-in_err-come_in-clause-same
-returns-in_err-come_in-clause-same g c = reserved_same (meaning_of c.args.self.now) (holding c.args.self.now)
-    c.reserve.new.self c.reserve.ensures.slots c.reserve.ensures.ids (g.E.Eviction.view c.reserve_to.new.self)
-    c.reserve_to.ensures.view
 
 pub returns-clause-same : goal.returns-clause-same
 returns-clause-same g c = reserved_same (meaning_of c.args.self.now) (holding c.args.self.now) c.reserve.new.self
