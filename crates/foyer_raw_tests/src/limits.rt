@@ -86,10 +86,10 @@ fn weighed<C>(
     }
 }
 
-/// A cache whose policy is refused its fifth request for memory.
+/// A cache whose policy is refused its third request for memory: the second eviction, as the first insert makes four nodes.
 type Refusing<H> = RawCache<
     H,
-    RefusingPolicy<Fifo, 4>,
+    RefusingPolicy<Fifo, 2>,
     u32,
     u64,
     ModHasher,
