@@ -16,6 +16,10 @@ pub fn run<H: Runtime>(cases: &mut Cases<H>) -> Outcome {
     cases.of_each_policy(
         "each of 1,000 shards changes what was seen",
         |config| changes(rt, config),
+    )?;
+    cases.of_each_policy(
+        "each of 1,000 shards lets records live longer",
+        |config| lives_longer(rt, config),
     )
 }
 
@@ -68,4 +72,34 @@ fn changes<H: Runtime>(rt: H, config: EvictionConfig) -> Outcome {
         &(3 * KEYS, 0, 0),
     )?;
     same(rt, "sums", &(cache.entries(), cache.usage()), &(0, 0))
+}
+
+// Each record lives beyond its moment once it has another, ends at that one, and isn't found any more.
+fn lives_longer<H: Runtime>(rt: H, config: EvictionConfig) -> Outcome {
+    let heard = Heard::new(rt.alloc(), KEYS)?;
+    let cache = cache(rt, 20 * SHARDS, SHARDS, config, &heard)?;
+    let expires = || CacheProperties::default().with_expiry(Some(NOW));
+    for key in 0..KEYS {
+        cache.put_with_properties(NOW - 1, key, 1, expires())?;
+        let set = (
+            cache.set_expires(NOW - 1, &key, Some(2 * NOW))?,
+            cache.contains(2 * NOW - 1, &key),
+            cache.contains(2 * NOW, &key),
+            cache.set_expires(2 * NOW, &key, None)?,
+        );
+        same(rt, "set", &set, &(true, true, false, false))?;
+    }
+    let wanted = Told {
+        replaced: KEYS,
+        ..Told::default()
+    };
+    same(rt, "told", &heard.take(), &wanted)?;
+    let stats = cache.stats();
+    same(
+        rt,
+        "counts",
+        &(stats.inserts, stats.hits, stats.misses),
+        &(2 * KEYS, KEYS, KEYS),
+    )?;
+    same(rt, "entries", &cache.entries(), &(KEYS as u128))
 }
