@@ -81,6 +81,8 @@ int search(cache_object *self, PyObject *key, Py_hash_t hash, node **found) {
             break;
         if (it->hash != hash)
             continue;
+        if (it->is_number && is_number(key, hash))
+            break;
         int is_equal = has_key(nodes, it, key);
         if (is_equal == -1)
             return -1;
