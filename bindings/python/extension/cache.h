@@ -56,7 +56,8 @@ typedef struct fetch {
 /* The nodes by key: each is in the first free place from the one of its hash on. */
 typedef struct {
     node **places;
-    size_t mask; /* the number of places less 1 */
+    size_t mask;    /* the number of places less 1 */
+    unsigned shift; /* 64 less the bits of a place's number */
     size_t count;
     size_t moves; /* counts what may have moved a node */
 } table;
@@ -169,10 +170,10 @@ int weigh(const cache_object *self, PyObject *key, PyObject *value, size_t *weig
 /* Whether a cache is closed; then there is an exception. */
 static inline int is_closed(const cache_object *self) { return !LIKELY(self->cache != NULL) && set_closed(); }
 
-/* The first place where the node of a hash may be. */
+/* The first place where the node of a hash may be. Numbers in a row have places of their own mostly (Fibonacci
+ * hashing). */
 static inline size_t place_of(const table *self, Py_hash_t hash) {
-    uint64_t spread = (uint64_t)hash * 0x9E3779B97F4A7C15u;
-    return (spread ^ spread >> 32) & self->mask;
+    return (uint64_t)hash * 0x9E3779B97F4A7C15u >> self->shift;
 }
 
 /* Finds the node of a key, or NULL. Returns 0, or -1 and an exception. It may run Python code, but none after the look
