@@ -90,6 +90,7 @@ static luffa_status create_slot(luffa_cache *cache, const luffa_config *config, 
     struct slot *slot = &cache->slots[index];
     memset(slot, 0, sizeof *slot);
     slot->cache = cache;
+    slot->is_unlocked = config->is_unlocked != 0;
     slot->is_listening = config->listener != NULL;
     luffa_status status = luffa_shard_create(
         &slot->shard, &config->policy, share_of(config->capacity, config->shards, index), config->listener != NULL);
@@ -100,10 +101,12 @@ static luffa_status create_slot(luffa_cache *cache, const luffa_config *config, 
     return status;
 }
 
-luffa_status luffa_create(const luffa_config *config, luffa_cache **made) {
+luffa_status luffa_create(const luffa_config *given, luffa_cache **made) {
+    luffa_config known, *config = &known;
     *made = NULL;
-    if (!is_config(config))
+    if (!is_config(given))
         return LUFFA_BAD_CONFIG;
+    write_as(&known, sizeof known, given, given->size);
     if (config->shards == 0)
         return LUFFA_NO_SHARDS;
     luffa_cache *cache = calloc(1, sizeof *cache);

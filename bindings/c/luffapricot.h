@@ -12,7 +12,8 @@
  * Keys and values. Any bytes of any length, 0 included. Both are copied. A pointer may be NULL if its length is 0, also
  * one that the cache gives; no other may, unless its call says so.
  *
- * Threads. Any thread may make any call at any time, except luffa_destroy, which must be the last call for a cache.
+ * Threads. Any thread may make any call at any time, except luffa_destroy, which must be the last call for a cache. If
+ * a cache is created with `is_unlocked`, a call begins only after that of another thread has ended.
  *
  * Callbacks. They are called with no lock held, so they may call the cache. Each must return: no exception, no longjmp,
  * no end of its thread.
@@ -118,6 +119,7 @@ typedef struct luffa_config {
     luffa_listener listener; /* NULL: nobody is told */
     void *listener_context;
     luffa_policy policy;
+    uint64_t is_unlocked; /* not 0: no lock is taken, so the caller makes one call at a time */
 } luffa_config;
 
 typedef struct luffa_cache luffa_cache;

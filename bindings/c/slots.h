@@ -42,6 +42,7 @@ struct asking {
  */
 struct slot {
     _Alignas(LINE) atomic_int is_locked;
+    bool is_unlocked; /* no lock is taken: there is one call at a time */
     luffa_shard shard;
     luffa_cache *cache;
     uint64_t hits;
@@ -88,7 +89,7 @@ static __attribute__((noinline, cold)) void wait_for_lock(struct slot *slot) {
 }
 
 static inline void lock(struct slot *slot) {
-    if (atomic_exchange_explicit(&slot->is_locked, 1, memory_order_acquire) != 0)
+    if (!slot->is_unlocked && atomic_exchange_explicit(&slot->is_locked, 1, memory_order_acquire) != 0)
         wait_for_lock(slot);
 }
 
@@ -159,7 +160,8 @@ struct place {
 };
 
 /* Finds the shard of a key, and locks it. */
-static inline struct place lock_of(const luffa_cache *cache, const void *key, size_t key_len) {
+static inline __attribute__((always_inline)) struct place lock_of(const luffa_cache *cache, const void *key,
+                                                                  size_t key_len) {
     uint64_t hash = hash_of(cache, key, key_len);
     size_t shards = cache->shards;
     struct slot *slot = &cache->slots[(shards & (shards - 1)) == 0 ? hash & (shards - 1) : hash % shards];

@@ -94,12 +94,12 @@ static void tell_some(struct slot *slot, size_t number, size_t from, size_t some
 
 /*
  * Tells what left, if that is to be told. The lock is held when it begins, and not when it returns. Without memory for
- * that (F7) what left stays to be told by a later call.
+ * that (F7) what left stays to be told by a later call. Calls that come meanwhile tell what leaves by them.
  */
 static luffa_status unlock_and_tell(struct slot *slot) {
     size_t number, count;
     luffa_status status = LUFFA_MISSING;
-    while (slot->is_listening && (status = luffa_shard_take_left(&slot->shard, &number, &count)) == LUFFA_OK) {
+    if (slot->is_listening && (status = luffa_shard_take_left(&slot->shard, &number, &count)) == LUFFA_OK) {
         for (size_t from = 0; from < count; from += BATCH)
             tell_some(slot, number, from, count - from < BATCH ? count - from : BATCH);
         luffa_shard_release(&slot->shard, number);

@@ -65,7 +65,8 @@ def compile_extension(folder: Path, is_limited: bool) -> Path:
     library, header = native().values()
     made = folder / f"_{NAME}{'.abi3.so' if is_limited else sysconfig.get_config_var('EXT_SUFFIX')}"
     compiler = shlex.split(os.environ.get("CC", "cc"))
-    flags = ["-std=gnu11", "-O2", "-Wall", "-Wextra", "-fPIC", "-shared", "-pthread", "-fvisibility=hidden"]
+    flags = ["-std=gnu11", "-O2", "-DNDEBUG", "-Wall", "-Wextra", "-fPIC", "-shared", "-pthread", "-fvisibility=hidden"]
+    flags += ["-Wl,--exclude-libs,ALL"]  # no other library of the process answers its calls
     flags += [f"-DPy_LIMITED_API={LIMITED}"] if is_limited else []
     flags += shlex.split(os.environ.get("CFLAGS", ""))
     paths = [f"-I{sysconfig.get_path('include')}", f"-I{header.parent}"]

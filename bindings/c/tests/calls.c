@@ -68,8 +68,11 @@ static void growing(void) {
         later.more = (uint64_t)1 << bit;
         CHECK(luffa_create(&later.config, &cache) == LUFFA_BAD_CONFIG && cache == NULL);
     }
-    for (later.config.size = 0; later.config.size < sizeof later.config; later.config.size++)
+    const size_t first = offsetof(luffa_config, is_unlocked); /* what version 0.1.0 had */
+    for (later.config.size = 0; later.config.size < first; later.config.size++)
         CHECK(luffa_create(&later.config, &cache) == LUFFA_BAD_CONFIG);
+    CHECK(luffa_create(&later.config, &cache) == LUFFA_OK && put(cache, "a", "x") == LUFFA_OK);
+    luffa_destroy(cache);
     memset(&later, 7, sizeof later);
     luffa_config_init(&later.config, offsetof(luffa_config, listener), LUFFA_LRU);
     CHECK(later.config.shards == 8 && later.config.hash == NULL && later.config.listener != NULL);
@@ -499,6 +502,17 @@ static void colliding(uint32_t policy) {
     luffa_destroy(cache);
 }
 
+/* A cache that takes no lock. */
+static luffa_cache *unlocked(uint32_t policy, size_t capacity) {
+    luffa_config config = luffa_config_default(policy);
+    luffa_cache *cache;
+    config.capacity = capacity;
+    config.shards = 2;
+    config.is_unlocked = 1;
+    CHECK(luffa_create(&config, &cache) == LUFFA_OK);
+    return cache;
+}
+
 int main(void) {
     creating();
     growing();
@@ -506,8 +520,8 @@ int main(void) {
     hashing();
     reconfiguring();
     for (uint32_t policy = LUFFA_FIFO; policy <= LUFFA_SIEVE; policy++) {
-        for (size_t shards = 1; shards <= 3; shards++) {
-            luffa_cache *cache = created(policy, 300, shards);
+        for (size_t shards = 0; shards <= 3; shards++) {
+            luffa_cache *cache = shards == 0 ? unlocked(policy, 300) : created(policy, 300, shards);
             one_record(cache);
             empty_bytes(cache);
             lengths(cache);

@@ -94,6 +94,29 @@ static void untold(luffa_shard *shard) {
     CHECK(luffa_shard_take_left(shard, &number, &count) == LUFFA_OK && count == 2);
 }
 
+/* A single record that left. */
+static void one_left(luffa_shard *shard) {
+    luffa_record record;
+    size_t number, count;
+    for (uint64_t key = 0; key < 9; key++) {
+        CHECK(luffa_shard_insert(shard, NOW, (luffa_hashed){key}, (uint8_t *)&key, 8, (uint8_t *)&key, 8, 1, 0) ==
+              LUFFA_OK);
+        uint64_t left = key - 2;
+        if (key < 2) {
+            CHECK(luffa_shard_take_left(shard, &number, &count) == LUFFA_MISSING);
+            continue;
+        }
+        CHECK(luffa_shard_take_left(shard, &number, &count) == LUFFA_OK && count == 1);
+        CHECK(luffa_shard_show_left(shard, number, 0, &record) == LUFFA_OK && record.event == LUFFA_EVICT);
+        CHECK(record.key_len == 8 && memcmp(record.key, &left, 8) == 0 && memcmp(record.value, &left, 8) == 0);
+        CHECK(luffa_shard_answered(shard, number, &record) == LUFFA_MISSING);
+        CHECK(luffa_shard_take_left(shard, &number, &count) == LUFFA_MISSING);
+        CHECK(luffa_shard_release(shard, number) == LUFFA_OK && luffa_shard_release(shard, number) == LUFFA_MISSING);
+        CHECK(luffa_shard_show_left(shard, number, 0, &record) == LUFFA_MISSING);
+    }
+    CHECK(luffa_shard_clear(shard) == LUFFA_OK);
+}
+
 int main(void) {
     luffa_shard shard = {0};
     luffa_policy policy = luffa_config_default(LUFFA_FIFO).policy;
@@ -106,6 +129,7 @@ int main(void) {
     CHECK(luffa_shard_create(&shard, &policy, 2, true) == LUFFA_IS_OPEN);
     wrong_numbers(&shard);
     untold(&shard);
+    one_left(&shard);
     CHECK(luffa_shard_load(&shard, &load) == LUFFA_OK && load.entries == 0 && load.usage_high == 0);
     CHECK(luffa_shard_destroy(&shard) == LUFFA_OK); /* with a number that is held */
     all_closed(&shard);

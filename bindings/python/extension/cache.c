@@ -42,6 +42,7 @@ static int read_callable(const char *name, PyObject *given, PyObject **place) {
 }
 
 static int create(cache_object *self, luffa_config *config) {
+    config->is_unlocked = 1; /* the interpreter has a lock */
     config->hash = hash_node;
     config->listener = hear;
     config->listener_context = self;

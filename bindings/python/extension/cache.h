@@ -24,6 +24,8 @@
 #define PyTuple_SET_ITEM (void)PyTuple_SetItem
 #endif
 
+#define LIKELY(CONDITION) __builtin_expect(!!(CONDITION), 1)
+
 /* A place in a list, from the oldest to the newest. */
 typedef struct chain {
     struct chain *next;
@@ -35,8 +37,9 @@ typedef struct node {
     PyObject *key;
     PyObject *value; /* NULL before the first insert */
     Py_hash_t hash;
-    uint32_t uses;    /* calls that use it */
-    uint32_t records; /* how many records of it the cache has: 2 for a moment when one replaces another */
+    uint32_t uses;         /* calls that use it */
+    uint32_t records : 31; /* how many records of it the cache has: 2 for a moment when one replaces another */
+    uint32_t is_number : 1;
 } node;
 
 /* A missing value that one thread makes, and for which others may wait. */
@@ -53,7 +56,8 @@ typedef struct fetch {
 /* The nodes by key: each is in the first free place from the one of its hash on. */
 typedef struct {
     node **places;
-    size_t mask; /* the number of places less 1 */
+    size_t mask;    /* the number of places less 1 */
+    unsigned shift; /* 64 less the bits of a place's number */
     size_t count;
     size_t moves; /* counts what may have moved a node */
 } table;
@@ -85,6 +89,29 @@ typedef struct {
     char is_lru;
 } cache_object;
 
+/* The hash of a key, or -1 and an exception. */
+static inline Py_hash_t hash_of(PyObject *key) {
+#ifndef Py_LIMITED_API
+    PyTypeObject *type = Py_TYPE(key);
+    if (type == &PyLong_Type || type == &PyUnicode_Type)
+        return type->tp_hash(key);
+#endif
+    return PyObject_Hash(key);
+}
+
+/* Whether a key is an int of few bits: no other such int has its hash. That of -1 is that of -2. */
+static inline int is_number(PyObject *key, Py_hash_t hash) {
+#if defined(Py_LIMITED_API)
+    (void)key;
+    (void)hash;
+    return 0;
+#elif PY_VERSION_HEX >= 0x030C0000
+    return Py_TYPE(key) == &PyLong_Type && hash != -2 && PyUnstable_Long_IsCompact((PyLongObject *)key);
+#else
+    return Py_TYPE(key) == &PyLong_Type && hash != -2 && (size_t)(Py_SIZE(key) + 1) <= 2;
+#endif
+}
+
 /* Whether a lookup would find a node. */
 static inline int is_there(const cache_object *self, node *it, uint64_t now) {
     return luffa_contains(self->cache, now, &it, sizeof it) == LUFFA_OK;
@@ -104,7 +131,6 @@ void give_back(cache_object *self);
 void lose_all(cache_object *self);
 uint64_t hash_node(void *context, const void *key, size_t key_len);
 void hear(void *context, int event, const void *key, size_t key_len, const void *value, size_t value_len);
-PyObject *touch(cache_object *self, node *it, uint64_t now);
 int put(cache_object *self, node *it, PyObject *value, size_t weight, uint64_t now, uint64_t ttl);
 int renew(cache_object *self, node *it, uint64_t now, uint64_t ttl);
 int keep(cache_object *self, node *it, PyObject *value, size_t weight);
@@ -142,26 +168,55 @@ int read_words(const char *call, const char *const *names, Py_ssize_t least, Py_
 int weigh(const cache_object *self, PyObject *key, PyObject *value, size_t *weight);
 
 /* Whether a cache is closed; then there is an exception. */
-static inline int is_closed(const cache_object *self) { return self->cache == NULL && set_closed(); }
+static inline int is_closed(const cache_object *self) { return !LIKELY(self->cache != NULL) && set_closed(); }
 
-/* The first place where the node of a hash may be. */
+/* The first place where the node of a hash may be. Numbers in a row have places of their own mostly (Fibonacci
+ * hashing). */
 static inline size_t place_of(const table *self, Py_hash_t hash) {
-    uint64_t spread = (uint64_t)hash * 0x9E3779B97F4A7C15u;
-    return (spread ^ spread >> 32) & self->mask;
+    return (uint64_t)hash * 0x9E3779B97F4A7C15u >> self->shift;
 }
 
 /* Finds the node of a key, or NULL. Returns 0, or -1 and an exception. It may run Python code, but none after the look
  * at the last node. */
 static inline int find(cache_object *self, PyObject *key, Py_hash_t hash, node **found) {
-    *found = self->table.places[place_of(&self->table, hash)];
-    return *found == NULL || (*found)->key == key ? 0 : search(self, key, hash, found);
+    node *it = *found = self->table.places[place_of(&self->table, hash)];
+    if (LIKELY(it != NULL && it->hash == hash && (it->key == key || (it->is_number && is_number(key, hash)))))
+        return 0;
+    return it == NULL ? 0 : search(self, key, hash, found);
 }
 
 /* The time in nanoseconds, 0 while no record may expire. Returns 0, or -1 and an exception, also if the cache is
  * closed. It may run Python code. */
 static inline int read_time(cache_object *self, uint64_t *now) {
     *now = 0;
-    return self->has_expiry || self->cache == NULL ? ask_time(self, now) : 0;
+    return LIKELY(!self->has_expiry && self->cache != NULL) ? 0 : ask_time(self, now);
+}
+
+static inline void unlink_node(node *it) {
+    if (it->chain.next == NULL)
+        return;
+    it->chain.previous->next = it->chain.next;
+    it->chain.next->previous = it->chain.previous;
+    it->chain.next = NULL;
+}
+
+/* Makes a node the newest of the list. */
+static inline void link_last(cache_object *self, node *it) {
+    unlink_node(it);
+    it->chain = (chain){&self->list, self->list.previous};
+    it->chain.previous->next = self->list.previous = &it->chain;
+}
+
+/* The value of a node that a lookup finds (a new reference), or NULL; then an exception may be set. */
+static inline PyObject *touch(cache_object *self, node *it, uint64_t now) {
+    luffa_status status = luffa_touch(self->cache, now, &it, sizeof it);
+    if (!LIKELY(status == LUFFA_OK))
+        return status == LUFFA_MISSING ? NULL : refused(self, status);
+    self->hits++;
+    if (self->is_lru)
+        link_last(self, it);
+    Py_INCREF(it->value);
+    return it->value;
 }
 
 extern PyType_Spec cache_spec;

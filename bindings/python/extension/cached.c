@@ -16,10 +16,16 @@ typedef struct {
     char is_off; /* nothing is kept */
 } cached_object;
 
-/* The key of a call: the argument itself if it is a single str or int, or else a tuple of all. */
+/* Whether the key of a call is its only argument: a str or an int. */
+static inline int is_its_key(const cached_object *self, PyObject *const *args, Py_ssize_t count, PyObject *names) {
+    return count == 1 && (names == NULL || PyTuple_GET_SIZE(names) == 0) && !self->is_typed &&
+           (PyLong_CheckExact(args[0]) || PyUnicode_CheckExact(args[0]));
+}
+
+/* The key of a call: its only argument, or else a tuple of all. */
 static PyObject *key_of(const cached_object *self, PyObject *const *args, Py_ssize_t count, PyObject *names) {
     Py_ssize_t named = names == NULL ? 0 : PyTuple_GET_SIZE(names), at = 0;
-    if (count == 1 && named == 0 && !self->is_typed && (PyUnicode_CheckExact(args[0]) || PyLong_CheckExact(args[0]))) {
+    if (is_its_key(self, args, count, names)) {
         Py_INCREF(args[0]);
         return args[0];
     }
@@ -65,7 +71,8 @@ static PyObject *run(const cached_object *self, const arguments *given) {
 }
 
 /* Calls the function for a missing key, and keeps what it returns. */
-static PyObject *make(const cached_object *self, PyObject *key, Py_hash_t hash, node *it, const arguments *given) {
+static __attribute__((noinline)) PyObject *make(const cached_object *self, PyObject *key, Py_hash_t hash, node *it,
+                                                const arguments *given) {
     cache_object *cache = self->cache;
     cache->misses++;
     if (it == NULL)
@@ -81,7 +88,7 @@ static PyObject *make(const cached_object *self, PyObject *key, Py_hash_t hash, 
     return value;
 }
 
-static PyObject *answer(const cached_object *self, PyObject *key, const arguments *given) {
+static inline PyObject *answer(const cached_object *self, PyObject *key, const arguments *given) {
     cache_object *cache = self->cache;
     uint64_t now;
     node *it;
@@ -89,22 +96,22 @@ static PyObject *answer(const cached_object *self, PyObject *key, const argument
         cache->misses++;
         return run(self, given);
     }
-    Py_hash_t hash = PyObject_Hash(key);
+    Py_hash_t hash = hash_of(key);
     if (hash == -1 || read_time(cache, &now) < 0 || find(cache, key, hash, &it) < 0 || is_closed(cache))
         return NULL;
-    if (it == NULL)
-        return make(self, key, hash, it, given);
-    PyObject *value = touch(cache, it, now);
-    return value != NULL || PyErr_Occurred() ? value : make(self, key, hash, it, given);
+    PyObject *value = it == NULL ? NULL : touch(cache, it, now);
+    return LIKELY(value != NULL) || (it != NULL && PyErr_Occurred()) ? value : make(self, key, hash, it, given);
 }
 
 #ifndef Py_LIMITED_API
 static PyObject *cached_fast_call(PyObject *callable, PyObject *const *args, size_t flags, PyObject *names) {
     const cached_object *self = (cached_object *)callable;
-    PyObject *key = key_of(self, args, PyVectorcall_NARGS(flags), names);
+    int is_key = is_its_key(self, args, PyVectorcall_NARGS(flags), names);
+    PyObject *key = LIKELY(is_key) ? args[0] : key_of(self, args, PyVectorcall_NARGS(flags), names);
     PyObject *value =
         key == NULL ? NULL : answer(self, key, &(arguments){.args = args, .flags = flags, .names = names});
-    Py_XDECREF(key);
+    if (!LIKELY(is_key))
+        Py_XDECREF(key);
     return value;
 }
 #else

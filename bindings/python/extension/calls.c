@@ -6,7 +6,7 @@ static PyObject *look_up(cache_object *self, PyObject *key) {
     node *it;
     uint64_t now;
     Py_hash_t hash;
-    if (read_time(self, &now) < 0 || (hash = PyObject_Hash(key)) == -1 || find(self, key, hash, &it) < 0)
+    if (read_time(self, &now) < 0 || (hash = hash_of(key)) == -1 || find(self, key, hash, &it) < 0)
         return NULL;
     if (is_closed(self)) /* by the hash or the comparison of a key */
         return NULL;
@@ -43,7 +43,7 @@ static node *node_of(cache_object *self, PyObject *key, int *is_found) {
     node *it;
     uint64_t now;
     Py_hash_t hash;
-    if (read_time(self, &now) < 0 || (hash = PyObject_Hash(key)) == -1 || find(self, key, hash, &it) < 0)
+    if (read_time(self, &now) < 0 || (hash = hash_of(key)) == -1 || find(self, key, hash, &it) < 0)
         return NULL;
     if (is_closed(self))
         return NULL;
@@ -197,7 +197,7 @@ static PyObject *cache_touch(cache_object *self, PyObject *const *args, Py_ssize
     ttl = ttl == 0 ? self->ttl : ttl;
     if (ttl > 0)
         self->has_expiry = 1;
-    if (read_time(self, &now) < 0 || (hash = PyObject_Hash(found[0])) == -1 || find(self, found[0], hash, &it) < 0)
+    if (read_time(self, &now) < 0 || (hash = hash_of(found[0])) == -1 || find(self, found[0], hash, &it) < 0)
         return NULL;
     if (is_closed(self)) /* by the hash or the comparison of a key */
         return NULL;

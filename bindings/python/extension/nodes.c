@@ -1,31 +1,15 @@
 /* The nodes of a cache, their records, and the fetches of their values. */
 #include "cache.h"
 
-/* Spreads the hash of a Python object, which for an int is that int. */
+/* Spreads the hash of a Python object, which for an int is that int, over 32 bits: LFU divides it, and processors
+ * divide a number of 64 bits slowly. */
 uint64_t hash_node(void *context, const void *key, size_t key_len) {
     const node *it;
     (void)context;
     (void)key_len;
     memcpy(&it, key, sizeof it);
-    uint64_t hash = (uint64_t)it->hash;
-    hash = (hash ^ hash >> 32) * 0xD6E8FEB86659FD93u;
-    hash = (hash ^ hash >> 32) * 0xD6E8FEB86659FD93u;
-    return hash ^ hash >> 32;
-}
-
-static void unlink_node(node *it) {
-    if (it->chain.next == NULL)
-        return;
-    it->chain.previous->next = it->chain.next;
-    it->chain.next->previous = it->chain.previous;
-    it->chain.next = NULL;
-}
-
-/* Makes a node the newest of the list. */
-static void link_last(cache_object *self, node *it) {
-    unlink_node(it);
-    it->chain = (chain){&self->list, self->list.previous};
-    it->chain.previous->next = self->list.previous = &it->chain;
+    unsigned __int128 product = (unsigned __int128)((uint64_t)it->hash ^ 0x9E3779B97F4A7C15u) * 0xD6E8FEB86659FD93u;
+    return ((uint64_t)product ^ (uint64_t)(product >> 64)) >> 32;
 }
 
 /* Takes a node out of the table that no record and no call needs. */
@@ -102,7 +86,8 @@ void done_with(cache_object *self, node *it) {
 node *add_node(cache_object *self, PyObject *key, Py_hash_t hash) {
     node *it = self->spare != NULL ? self->spare : PyMem_Malloc(sizeof *it);
     self->spare = NULL;
-    if (it == NULL || (*it = (node){.key = key, .hash = hash, .uses = 1}, table_add(&self->table, it)) < 0) {
+    if (it == NULL || (*it = (node){.key = key, .hash = hash, .uses = 1, .is_number = is_number(key, hash)},
+                       table_add(&self->table, it)) < 0) {
         PyMem_Free(it);
         PyErr_NoMemory();
         return NULL;
@@ -114,7 +99,7 @@ node *add_node(cache_object *self, PyObject *key, Py_hash_t hash) {
 /* The node of a key, which is made if there is none. It is used until done_with. NULL and an exception if it fails. */
 node *use_node(cache_object *self, PyObject *key) {
     node *it;
-    Py_hash_t hash = PyObject_Hash(key);
+    Py_hash_t hash = hash_of(key);
     if (hash == -1 || find(self, key, hash, &it) < 0)
         return NULL;
     if (is_closed(self)) /* by the comparison of a key */
@@ -123,19 +108,6 @@ node *use_node(cache_object *self, PyObject *key) {
         return add_node(self, key, hash);
     it->uses++;
     return it;
-}
-
-/* The value of a node that a lookup finds (a new reference), or NULL; then an exception may be set. */
-PyObject *touch(cache_object *self, node *it, uint64_t now) {
-    luffa_status status = luffa_touch(self->cache, now, &it, sizeof it);
-    if (status == LUFFA_OK) {
-        self->hits++;
-        if (self->is_lru)
-            link_last(self, it);
-        Py_INCREF(it->value);
-        return it->value;
-    }
-    return status == LUFFA_MISSING ? NULL : refused(self, status);
 }
 
 /* The open fetch of a node, or NULL. */

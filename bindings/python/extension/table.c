@@ -12,7 +12,8 @@ static void insert_into(table *self, node *it) {
 
 /* Gives the table this many places, a power of two. Returns 0, or -1 if there is no memory. */
 static int rehash(table *self, size_t size) {
-    table made = {.mask = size - 1, .count = self->count, .moves = self->moves + 1};
+    table made = {.mask = size - 1, .shift = (unsigned)__builtin_clzll(size) + 1, .count = self->count};
+    made.moves = self->moves + 1;
     made.places = size > PY_SSIZE_T_MAX / sizeof(node *) ? NULL : PyMem_Calloc(size, sizeof(node *));
     if (made.places == NULL)
         return -1;
@@ -81,6 +82,8 @@ int search(cache_object *self, PyObject *key, Py_hash_t hash, node **found) {
             break;
         if (it->hash != hash)
             continue;
+        if (it->is_number && is_number(key, hash))
+            break;
         int is_equal = has_key(nodes, it, key);
         if (is_equal == -1)
             return -1;

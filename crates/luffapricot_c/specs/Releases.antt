@@ -1,5 +1,6 @@
 -- What the calls for a number that C holds make of a cache of bytes.
-use Rattle.std.specs.Prelude.{◌≡◌, ◌≢◌, ℕ, ◌<◌, Bool, true, false, [], IsSomeAnd, Option, None, Some, Result, Ok, Err, if◌then◌else◌, is_some, length, option_map, slice_get}
+use Rattle.std.specs.Prelude.{◌≡◌, ◌≢◌, ℕ, ◌<◌, Bool, true, false, List, [], ◌∷◌, IsSomeAnd, Option, None, Some, Result, Ok, Err, if◌then◌else◌, is_some, length, option_map, slice_get}
+use Rattle.std.specs.Global.{Vec}
 use Rattle.slab.specs.Slab.{Updates, get}
 use Rattle.foyer_policy.specs.declared.error.Reason.{Reason}
 use Rattle.foyer_policy.specs.declared.error.Reason.TheVariants.{NoMemory}
@@ -93,11 +94,17 @@ abbrev pub NumberAnswers : Option Hold → ℕ → ℕ → LuffaRecord → ByteC
 NumberAnswers None number status shown c = status ≡ 101
 NumberAnswers (Some hold) number status shown c = HeldAnswers hold.held number status shown c
 
+-- what a number names that takes what left: a single record by itself
+abbrev pub held_left : Vec (Event × GoneOf Key Value Answered) → List (Event × GoneOf Key Value Answered) → Held
+held_left left [] = Left left
+held_left left (gone ∷ []) = Gone gone
+held_left left (gone ∷ other ∷ more) = Left left
+
 -- what left goes under a number that named nothing; without memory it stays
 abbrev pub TakesLeft : Result Bool Reason → ℕ → ℕ → ByteCache → ByteCache → Type 0
 TakesLeft (Ok true) number count old new = (old.left.items ≢ []) × (count ≡ length old.left.items)
     × (new.left.items ≡ []) × (new.core ≡ old.core) × (get old.holds number ≡ None)
-    × Updates old.holds new.holds number (Some (record { held = Left old.left }))
+    × Updates old.holds new.holds number (Some (record { held = held_left old.left old.left.items }))
     × Frames (record old { holds = new.holds; left = new.left }) new
 TakesLeft (Ok false) number count old new = (old.left.items ≡ []) × (new ≡ old)
 TakesLeft (Err reason) number count old new = (reason ≡ NoMemory) × (new.left ≡ old.left) × (new.core ≡ old.core)

@@ -6,7 +6,7 @@ ghost use Rattle.luffapricot_c.specs.Calls.{HoldsEntry};
 ghost use Rattle.luffapricot_c.specs.Holds.{given, given_all, given_each, settled};
 ghost use Rattle.foyer_core.specs.Cores.{core_of, fetches_of, meaning_of_core};
 ghost use Rattle.luffapricot_c.specs.Named.{named_of};
-ghost use Rattle.luffapricot_c.specs.Releases.{EndsNamed, HeldAnswers, NumberAnswers, Releases, ShowsLeft, TakesLeft, left_at};
+ghost use Rattle.luffapricot_c.specs.Releases.{EndsNamed, HeldAnswers, NumberAnswers, Releases, ShowsLeft, TakesLeft, held_left, left_at};
 ghost use Rattle.luffapricot_c.specs.declared.hold.Held.TheVariants.{Entry as EntryHeld};
 
 use super::{ByteCache, Core};
@@ -20,6 +20,7 @@ use foyer_core::{
 };
 use foyer_policy::Result;
 use slab::Slab;
+use std::alloc::Global;
 use std::mem;
 
 type Given = CoreEntry<Key, Value, CacheProperties>;
@@ -136,6 +137,21 @@ fn left_in(holds: &Slab<Hold>, number: usize, index: usize) -> Option<&Gone>
     }
 }
 
+// Takes out what left. A single record is taken by itself, so that the list keeps its room.
+#[inline(always)]
+fn moved(left: &mut Vec<Gone>, alloc: Global) -> Held
+    ensures held { result ≡ held_left left.old left.old.items }
+    ensures empty { left.new.items ≡ [] }
+{
+    if left.len() != 1 {
+        return Held::Left(mem::replace(left, Vec::new(alloc)));
+    }
+    match left.pop() {
+        Some(gone) => Held::Gone(gone),
+        None => unreachable!(),
+    }
+}
+
 // What left is forgotten if nobody is told of it.
 #[inline(always)]
 pub(super) fn forget_left(left: &mut Vec<Gone>, has_listener: bool)
@@ -238,9 +254,9 @@ impl ByteCache {
             return Ok(false);
         }
         self.holds.reserve(1)?;
-        let left = mem::replace(&mut self.left, Vec::new(self.alloc));
-        *count = left.len();
-        *number = self.holds.insert_reserved(Hold::new(Held::Left(left)));
+        *count = self.left.len();
+        let held = moved(&mut self.left, self.alloc);
+        *number = self.holds.insert_reserved(Hold::new(held));
         Ok(true)
     }
 
