@@ -153,8 +153,8 @@ enum {
     LUFFA_LOW_PRIORITY = 2, /* LRU: the record is among the first to be evicted */
     LUFFA_PHANTOM = 4, /* no lookup finds the record: it is told as LUFFA_REMOVE when it is inserted, and as LUFFA_EVICT
                           when it leaves with its last entry */
-    LUFFA_ONLY_IF_FITS = 8 /* luffa_insert_entry, luffa_insert_owned: LUFFA_FULL, and nothing is inserted or evicted, if
-                              the weight is more than the shard's capacity less what LRU pins of other keys there */
+    LUFFA_ONLY_IF_FITS = 8 /* LUFFA_FULL, and nothing is inserted or evicted, if the weight is more than the shard's
+                              capacity less what LRU pins of other keys there */
 };
 
 /* What the callback of luffa_get_or_insert makes. */
@@ -223,8 +223,7 @@ luffa_status luffa_insert_owned(luffa_cache *cache, uint64_t now, const void *ke
  * Like luffa_insert_entry, if the key still has the record of `seen`, an entry of this key, also if that is expired;
  * or, if `seen` is NULL, if a lookup finds none. So an increment is a luffa_get_entry and a luffa_replace_if, again
  * until it isn't LUFFA_CHANGED. If the key has another record, nothing is inserted: LUFFA_CHANGED, and `current` is an
- * entry of that one, whose use is counted; LUFFA_MISSING if a lookup finds none. F7 to F10. LUFFA_ONLY_IF_FITS isn't
- * read.
+ * entry of that one, whose use is counted; LUFFA_MISSING if a lookup finds none. F7 to F10.
  */
 luffa_status luffa_replace_if(luffa_cache *cache, uint64_t now, const luffa_entry *seen, const void *key,
                               size_t key_len, const void *value, size_t value_len, const luffa_terms *terms,
