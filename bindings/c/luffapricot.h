@@ -155,8 +155,8 @@ enum {
     LUFFA_LOW_PRIORITY = 2, /* LRU: the record is among the first to be evicted */
     LUFFA_PHANTOM = 4, /* no lookup finds the record: it is told as LUFFA_REMOVE when it is inserted, and as LUFFA_EVICT
                           when it leaves with its last entry */
-    LUFFA_ONLY_IF_FITS = 8 /* luffa_insert_entry, luffa_insert_owned: LUFFA_FULL, and nothing is inserted or evicted, if
-                              the weight is more than the shard's capacity less what LRU pins of other keys there */
+    LUFFA_ONLY_IF_FITS = 8 /* LUFFA_FULL, and nothing is inserted or evicted, if the weight is more than the shard's
+                              capacity less what LRU pins of other keys there */
 };
 
 /* What the callback of luffa_get_or_insert makes. */
@@ -198,9 +198,9 @@ static inline luffa_config luffa_config_default(uint32_t policy) {
 /* Creates a cache. F1 to F7, LUFFA_NO_POLICY or LUFFA_BAD_CONFIG; then *cache is NULL. */
 luffa_status luffa_create(const luffa_config *config, luffa_cache **cache);
 
-/* Tells the listener that all records leave (LUFFA_CLEAR), but for a shard's for whose list there is no memory, and
- * frees the cache with the entries that are still held. The listener and the callbacks of luffa_insert_owned may not
- * insert any more. NULL is allowed. */
+/* Tells the listener that all records leave (LUFFA_CLEAR), for which it needs no memory, and frees the cache with the
+ * entries that are still held. The listener and the callbacks of luffa_insert_owned may not insert any more. NULL is
+ * allowed. */
 void luffa_destroy(luffa_cache *cache);
 
 /* Inserts a record, which replaces that of its key. It never expires if `expires` is 0. F7 to F10. */
@@ -225,8 +225,7 @@ luffa_status luffa_insert_owned(luffa_cache *cache, uint64_t now, const void *ke
  * Like luffa_insert_entry, if the key still has the record of `seen`, an entry of this key, also if that is expired;
  * or, if `seen` is NULL, if a lookup finds none. So an increment is a luffa_get_entry and a luffa_replace_if, again
  * until it isn't LUFFA_CHANGED. If the key has another record, nothing is inserted: LUFFA_CHANGED, and `current` is an
- * entry of that one, whose use is counted; LUFFA_MISSING if a lookup finds none. F7 to F10. LUFFA_ONLY_IF_FITS isn't
- * read.
+ * entry of that one, whose use is counted; LUFFA_MISSING if a lookup finds none. F7 to F10.
  */
 luffa_status luffa_replace_if(luffa_cache *cache, uint64_t now, const luffa_entry *seen, const void *key,
                               size_t key_len, const void *value, size_t value_len, const luffa_terms *terms,

@@ -91,6 +91,26 @@ static void inserts_if_fits(uint32_t policy) {
     luffa_destroy(cache);
 }
 
+/* What doesn't fit replaces nothing. */
+static void replaces_if_fits(uint32_t policy) {
+    const luffa_terms fine = {.weight = 10, .flags = LUFFA_ONLY_IF_FITS}, heavy = {11, 0, LUFFA_ONLY_IF_FITS};
+    luffa_entry first, second = {0};
+    begin(policy, 10);
+    CHECK(luffa_replace_if(cache, 0, NULL, "a", 1, "one", 3, &heavy, &second) == LUFFA_FULL && second.shard == NULL);
+    CHECK(luffa_replace_if(cache, 0, NULL, "a", 1, "one", 3, &fine, &first) == LUFFA_OK && luffa_usage(cache) == 10);
+    CHECK(luffa_replace_if(cache, 0, &first, "a", 1, "two", 3, &heavy, &second) == LUFFA_FULL &&
+          told[LUFFA_REPLACE] == 0);
+    CHECK(luffa_replace_if(cache, 0, &first, "a", 1, "two", 3, &fine, &second) == LUFFA_OK && is_value(&second, "two"));
+    luffa_release(&second);
+    CHECK(luffa_replace_if(cache, 0, &first, "a", 1, "three", 5, &heavy, &second) == LUFFA_CHANGED);
+    CHECK(is_value(&second, "two") && told[LUFFA_REPLACE] + told[LUFFA_EVICT] == 1);
+    CHECK(luffa_replace_if(cache, 0, NULL, "b", 1, "b", 1, &fine, NULL) ==
+          (policy == LUFFA_LRU ? LUFFA_FULL : LUFFA_OK));
+    luffa_release(&second);
+    luffa_release(&first);
+    luffa_destroy(cache);
+}
+
 /* Adds one to the number under "n", whatever the other threads do. */
 static void add_one(void) {
     luffa_entry seen = {0}, current;
@@ -133,6 +153,7 @@ int main(int argc, char **argv) {
     for (uint32_t policy = LUFFA_FIFO; policy <= LUFFA_SIEVE; policy++) {
         replaces(policy);
         inserts_if_fits(policy);
+        replaces_if_fits(policy);
         counts(policy, threads < MOST_THREADS ? threads : MOST_THREADS);
     }
     return ended("conditional");

@@ -132,6 +132,17 @@ static void in_a_full_shard(uint32_t policy) {
     luffa_destroy(cache);
 }
 
+/* It evicts what has expired by then, however late that is. */
+static void evicts_what_has_expired(uint32_t policy, uint64_t time) {
+    begin(policy, 100, 1, true);
+    for (uint64_t key = 0; key < 100; key++)
+        CHECK(add(key, 1, key == 50 ? LUFFA_EXPIRES : 0, time, NULL) == LUFFA_OK);
+    CHECK(set(time, 60, 0) == LUFFA_OK && told[LUFFA_EVICT] == 1 && told[LUFFA_REPLACE] == 1);
+    for (uint64_t key = 0; key < 100; key++)
+        CHECK(luffa_contains(cache, 0, spelled(key), LONG) == (key == 50 ? LUFFA_MISSING : LUFFA_OK));
+    luffa_destroy(cache);
+}
+
 static int values[KEYS];
 
 static void free_value(void *context, void *value) {
@@ -289,18 +300,50 @@ static void changes(uint32_t policy, size_t threads) {
     CHECK(freed == given && wrong == 0);
 }
 
+static atomic_bool is_written;
+
+static void *change_one(void *context) {
+    for (uint64_t time = 1; !is_written; time++) {
+        luffa_status status = set(0, 1, time);
+        wrong += status != LUFFA_OK && status != LUFFA_MISSING;
+    }
+    return context;
+}
+
+/* Whoever changes when a record expires doesn't put an older one in the place of another thread's. */
+static void keeps_what_is_newer(uint32_t policy, size_t threads) {
+    pthread_t all[MOST_THREADS];
+    luffa_entry entry;
+    begin(policy, 100, 1, false);
+    is_written = false;
+    for (size_t i = 0; i < threads; i++)
+        CHECK(pthread_create(&all[i], NULL, change_one, NULL) == 0);
+    for (uint64_t number = 0; number < STEPS; number++) {
+        CHECK(luffa_insert(cache, 0, spelled(1), LONG, &number, 8, 1, 0) == LUFFA_OK);
+        CHECK(get(0, 1, &entry) == LUFFA_OK && memcmp(entry.value, &number, 8) == 0);
+        luffa_release(&entry);
+    }
+    is_written = true;
+    for (size_t i = 0; i < threads; i++)
+        CHECK(pthread_join(all[i], NULL) == 0);
+    CHECK(luffa_entries(cache) == 1 && wrong == 0);
+    luffa_destroy(cache);
+}
+
 int main(int argc, char **argv) {
     static const size_t SHARDS[] = {1, 17, 65, 1000};
     size_t threads = argc > 1 ? strtoull(argv[1], NULL, 10) : 4;
     for (uint32_t policy = LUFFA_FIFO; policy <= LUFFA_SIEVE; policy++) {
         for (size_t i = 0; i < 4; i++) {
             one_record(policy, TIMES[i]);
+            evicts_what_has_expired(policy, TIMES[i]);
             many(policy, SHARDS[i], TIMES[i] > KEYS ? TIMES[i] : KEYS + 9);
             owned(policy, SHARDS[i], i % 2 == 0);
         }
         in_a_full_shard(policy);
         ends_a_fetch(policy);
         changes(policy, threads < MOST_THREADS ? threads : MOST_THREADS);
+        keeps_what_is_newer(policy, threads < MOST_THREADS ? threads : MOST_THREADS);
     }
     wakes_who_waits();
     return ended("expiry");

@@ -1,5 +1,5 @@
 -- Records that are named.
-use Rattle.std.proofs.Common.{◌≡◌, ◌∙◌, ◌+◌, ℕ, List, Option, Some, None, Result, Ok, Err, ap, refl, subst, sym, true}
+use Rattle.std.proofs.Common.{◌≡◌, ◌∙◌, ◌+◌, ℕ, List, Option, Some, None, Result, Ok, Err, ap, inl, inr, refl, subst, sym, true}
 use Rattle.std.specs.Prelude.{IsSomeAnd}
 use Rattle.std.proofs.lemmas.Map.{update_here}
 use Rattle.foyer_policy.specs.declared.error.Reason.{Reason}
@@ -16,10 +16,11 @@ use Rattle.foyer_core.proofs.CoreLaws.{now_here}
 use Rattle.luffapricot_c.specs.declared.cache.ByteCache.{ByteCache}
 use Rattle.luffapricot_c.specs.declared.key.Key.{Key}
 use Rattle.luffapricot_c.specs.declared.record.LuffaRecord.{LuffaRecord}
+use Rattle.luffapricot_c.specs.declared.terms.LuffaTerms.{LuffaTerms}
 use Rattle.luffapricot_c.specs.declared.value.Value.{Value}
-use Rattle.luffapricot_c.specs.Bytes.{IsKey, IsValue}
+use Rattle.luffapricot_c.specs.Bytes.{IsKey, IsValue, asks_fit}
 use Rattle.luffapricot_c.specs.Calls.{CoreGets, GetsHeld, HoldsEntry, Inserts}
-use Rattle.luffapricot_c.specs.Conditional.{InsertsAgain, SetsExpiryAt, expiring}
+use Rattle.luffapricot_c.specs.Conditional.{InsertsAgain, InsertsBy, ReplacesIf, SetsExpiryAt, StillHas, expiring}
 use Rattle.luffapricot_c.specs.Frames.{Frames}
 use Rattle.luffapricot_c.specs.Named.{Named}
 
@@ -142,3 +143,11 @@ inserts_again now expires named entry name x key value p old new is same has k v
     let at_id = subst (λ (i : ℕ). IsSomeAnd (shard_at (core_of old.core) entry.hash) (λ s. Some x ≡ s.records i)) same.1 at_hash in
     subst (λ (n : Option Named). SetsExpiryAt now n expires (Ok true) old new) is
     (at_record (λ o. InsertsAgain now expires o (Ok true) old new) entry.hash entry.id old (Some x) at_id of_all)
+
+-- what is inserted while its key has what was seen replaces that
+pub replaces_by : (now hash : ℕ) (key bytes : List ℕ) (owner : ℕ) (terms : LuffaTerms) (seen : Option ℕ)
+    (answer : Result ℕ Reason) (shown : LuffaRecord) (old new : ByteCache) → StillHas now hash key seen true old →
+    InsertsBy (asks_fit terms) now hash key bytes owner terms answer shown old new →
+    ReplacesIf now hash key bytes owner terms seen answer shown old new
+replaces_by now hash key bytes owner terms seen (Ok status) shown old new still by = inl (still, by)
+replaces_by now hash key bytes owner terms seen (Err reason) shown old new still by = inr (inl (still, by))

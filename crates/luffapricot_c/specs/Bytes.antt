@@ -1,5 +1,5 @@
 -- Keys and values of bytes, and what C gives with them.
-use Rattle.std.specs.Prelude.{◌≡◌, ℕ, ◌==◌, ◌++◌, Bool, true, List, Option, None, Some, bit_and, bit_or, drop, if◌then◌else◌, length, take, unwrap_or}
+use Rattle.std.specs.Prelude.{◌≡◌, ℕ, ◌==◌, ◌++◌, Bool, true, List, Option, None, Some, bit_and, bit_or, drop, if◌then◌else◌, length, not, take, unwrap_or}
 use Rattle.foyer_policy.specs.declared.types.Hint.{Hint}
 use Rattle.foyer_policy.specs.declared.types.Hint.TheVariants.{Low, Normal}
 use Rattle.foyer_core.specs.declared.record.Data.{Data}
@@ -33,6 +33,10 @@ properties_of t = record {
   hint = if bit_and t.flags 2 == 0 then Normal else Low;
   expires = if bit_and t.flags 1 == 0 then None else Some t.expires;
 }
+
+-- whether these ask that a record is only inserted if it fits: 8
+abbrev pub asks_fit : LuffaTerms → Bool
+asks_fit t = not (bit_and t.flags 8 == 0)
 
 -- the flags of properties by their parts
 abbrev pub expiry_flag : Option ℕ → ℕ

@@ -16,7 +16,7 @@ use Rattle.luffapricot_c.specs.declared.key.Key.{Key}
 use Rattle.luffapricot_c.specs.declared.record.LuffaRecord.{LuffaRecord}
 use Rattle.luffapricot_c.specs.declared.terms.LuffaTerms.{LuffaTerms}
 use Rattle.luffapricot_c.specs.declared.value.Value.{Value}
-use Rattle.luffapricot_c.specs.Bytes.{IsKey, expiry_of, properties_of}
+use Rattle.luffapricot_c.specs.Bytes.{IsKey, asks_fit, expiry_of, properties_of}
 use Rattle.luffapricot_c.specs.Calls.{GetsEntry, Inserts, InsertsEntry, IsToldOf, Lacks}
 use Rattle.luffapricot_c.specs.Frames.{Frames}
 use Rattle.luffapricot_c.specs.Named.{Named}
@@ -44,20 +44,6 @@ pub record StillHas (now hash : ℕ) (key : List ℕ) (seen : Option ℕ) (answe
   pub own_is : IsKey hash key own
   pub is : IsCurrentIn (meaning_of_core c.core) now (core_of c.core) (hashes_of c.core own, own) seen answer
 
--- A record is inserted and held if its key has what was seen, with status 0; else the record that a lookup finds is held,
--- with status 110, or 101 if there is none.
-abbrev pub ReplacesIf : ℕ → ℕ → List ℕ → List ℕ → ℕ → LuffaTerms → Option ℕ → Result ℕ Reason → LuffaRecord → ByteCache →
-    ByteCache → Type 0
-ReplacesIf now hash key bytes owner terms seen (Ok status) shown old new =
-    (StillHas now hash key seen true old × (status ≡ 0)
-    × InsertsEntry {A = Unit {0}} now hash key bytes owner terms.weight (properties_of terms) (Ok tt) shown old new)
-    ⊎ (StillHas now hash key seen false old × ((found : Bool) × (status ≡ (if found then 110 else 101))
-    × GetsEntry now hash key (Ok found) shown old new))
-ReplacesIf now hash key bytes owner terms seen (Err reason) shown old new = Lacks reason old new
-    ⊎ ((StillHas now hash key seen true old
-    × InsertsEntry {A = Unit {0}} now hash key bytes owner terms.weight (properties_of terms) (Err reason) shown old new)
-    ⊎ (StillHas now hash key seen false old × GetsEntry now hash key (Err reason) shown old new))
-
 -- whether a record of this key and weight fits beside what is pinned of other keys
 pub record FitsIn (hash : ℕ) (key : List ℕ) (weight : ℕ) (answer : Bool) (c : ByteCache) : Type 0 where
   pub own : Key
@@ -75,6 +61,32 @@ InsertsIfFits now hash key bytes owner terms (Ok false) shown old new = FitsIn h
 InsertsIfFits now hash key bytes owner terms (Err reason) shown old new = Lacks reason old new
     ⊎ (FitsIn hash key terms.weight true old
     × InsertsEntry {A = Unit {0}} now hash key bytes owner terms.weight (properties_of terms) (Err reason) shown old new)
+
+-- an insert as terms say: only of a record that fits if they ask that, and 111 if it doesn't
+abbrev pub InsertsBy : Bool → ℕ → ℕ → List ℕ → List ℕ → ℕ → LuffaTerms → Result ℕ Reason → LuffaRecord → ByteCache →
+    ByteCache → Type 0
+InsertsBy true now hash key bytes owner terms (Ok status) shown old new = (fits : Bool)
+    × (status ≡ (if fits then 0 else 111)) × InsertsIfFits now hash key bytes owner terms (Ok fits) shown old new
+InsertsBy true now hash key bytes owner terms (Err reason) shown old new =
+    InsertsIfFits now hash key bytes owner terms (Err reason) shown old new
+InsertsBy false now hash key bytes owner terms (Ok status) shown old new = (status ≡ 0)
+    × InsertsEntry {A = Unit {0}} now hash key bytes owner terms.weight (properties_of terms) (Ok tt) shown old new
+InsertsBy false now hash key bytes owner terms (Err reason) shown old new =
+    InsertsEntry {A = Unit {0}} now hash key bytes owner terms.weight (properties_of terms) (Err reason) shown old new
+
+-- A record is inserted and held as its terms say, if its key has what was seen; else the record that a lookup finds is
+-- held, with status 110, or 101 if there is none.
+abbrev pub ReplacesIf : ℕ → ℕ → List ℕ → List ℕ → ℕ → LuffaTerms → Option ℕ → Result ℕ Reason → LuffaRecord → ByteCache →
+    ByteCache → Type 0
+ReplacesIf now hash key bytes owner terms seen (Ok status) shown old new =
+    (StillHas now hash key seen true old
+    × InsertsBy (asks_fit terms) now hash key bytes owner terms (Ok status) shown old new)
+    ⊎ (StillHas now hash key seen false old × ((found : Bool) × (status ≡ (if found then 110 else 101))
+    × GetsEntry now hash key (Ok found) shown old new))
+ReplacesIf now hash key bytes owner terms seen (Err reason) shown old new = Lacks reason old new
+    ⊎ ((StillHas now hash key seen true old
+    × InsertsBy (asks_fit terms) now hash key bytes owner terms (Err reason) shown old new)
+    ⊎ (StillHas now hash key seen false old × GetsEntry now hash key (Err reason) shown old new))
 
 -- whether an entry's record is in the index of its shard
 abbrev pub StillIn : Bool → Named → ByteCache → Type 0

@@ -12,7 +12,7 @@ use std::alloc::Global;
 
 /// Inserts a record and holds a handle to it, if the key still has the record whose entry `number` names, or, if it names
 /// none, if a lookup finds none. Else CHANGED with a handle to the record that a lookup finds, or MISSING. 0, CHANGED,
-/// MISSING, NOT_OPEN, or 7 to 10 for F7 to F10.
+/// MISSING, FULL if its terms ask that it fits, and it doesn't, NOT_OPEN, or 7 to 10 for F7 to F10.
 #[unsafe(no_mangle)]
 pub extern "C" fn luffa_shard_replace_if(
     shard: &mut LuffaShard,

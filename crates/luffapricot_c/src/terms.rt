@@ -1,7 +1,7 @@
 //! How a record is inserted, and how it was.
 
 ghost use Rattle.std.specs.Prelude.{◌≡◌};
-ghost use Rattle.luffapricot_c.specs.Bytes.{expiry_flag, expiry_of, flags_of, hint_flag, phantom_flag, plain, properties_of};
+ghost use Rattle.luffapricot_c.specs.Bytes.{asks_fit, expiry_flag, expiry_of, flags_of, hint_flag, phantom_flag, plain, properties_of};
 
 use foyer_core::CacheProperties;
 use foyer_policy::{Hint, Properties};
@@ -14,7 +14,8 @@ pub struct LuffaTerms {
     pub weight: usize,
     /// From this time on no lookup finds it, if `flags` say so.
     pub expires: u64,
-    /// 1 for a record that expires, 2 for one of low priority, 4 for a phantom, and their sums.
+    /// 1 for a record that expires, 2 for one of low priority, 4 for a phantom, 8 for one that isn't inserted unless it
+    /// fits, and their sums.
     pub flags: u32,
 }
 
@@ -23,6 +24,8 @@ const EXPIRES: u32 = 1;
 const LOW: u32 = 2;
 
 const PHANTOM: u32 = 4;
+
+const ONLY_IF_FITS: u32 = 8;
 
 impl LuffaTerms {
     pub(crate) fn properties(&self) -> CacheProperties
@@ -46,6 +49,13 @@ impl LuffaTerms {
         } else {
             properties
         }
+    }
+
+    /// Whether the record isn't to be inserted unless it fits.
+    pub(crate) fn only_if_fits(&self) -> bool
+        ensures { result ≡ asks_fit self.now }
+    {
+        self.flags & ONLY_IF_FITS != 0
     }
 }
 

@@ -3,7 +3,8 @@
 ghost use Rattle.std.specs.Prelude.{◌≡◌, IfErr, IfOk, option_copied};
 ghost use Rattle.foyer_policy.specs.declared.error.Reason.TheVariants.{NoMemory};
 ghost use Rattle.slab.specs.Slab.{get};
-ghost use Rattle.luffapricot_c.specs.Conditional.{FitsIn, InsertsIfFits, RemovesThis, ReplacesIf, SetsExpiryAt, StillHas, entry_at, seen_at};
+ghost use Rattle.luffapricot_c.specs.Bytes.{asks_fit};
+ghost use Rattle.luffapricot_c.specs.Conditional.{FitsIn, InsertsBy, InsertsIfFits, RemovesThis, ReplacesIf, SetsExpiryAt, StillHas, entry_at, seen_at};
 
 use super::ByteCache;
 use super::holds::forget_left;
@@ -36,9 +37,9 @@ fn seen(holds: &Slab<Hold>, number: usize) -> Option<u64>
 }
 
 impl ByteCache {
-    /// Inserts a record and holds a handle to it, if the key still has the record whose entry `number` names, or, if it
-    /// names none, if a lookup finds none. Else it holds a handle to the record that a lookup finds: CHANGED, or MISSING
-    /// if there is none.
+    /// Inserts a record as `insert_by` does, if the key still has the record whose entry `number` names, or, if it names
+    /// none, if a lookup finds none. Else it holds a handle to the record that a lookup finds: CHANGED, or MISSING if
+    /// there is none.
     pub(crate) fn replace_if(
         &mut self,
         now: u64,
@@ -52,15 +53,39 @@ impl ByteCache {
     ) -> Result<u32>
         ensures { ReplacesIf now hash key.now bytes.now owner terms.now (seen_at (get self.old.holds number)) result shown.new self.old self.new }
     {
-        if self.still_has(now, hash, key, number)? {
-            return match self.insert_entry(now, hash, key, bytes, owner, terms, shown) {
-                Ok(()) => Ok(status::OK),
-                Err(error) => Err(error),
-            };
+        let is_current = self.still_has(now, hash, key, number)?;
+        if is_current {
+            return self.insert_by(now, hash, key, bytes, owner, terms, shown);
         }
         match self.get_entry(now, hash, key, shown) {
             Ok(true) => Ok(status::CHANGED),
             Ok(false) => Ok(status::MISSING),
+            Err(error) => Err(error),
+        }
+    }
+
+    // Inserts a record and holds a handle to it, or FULL if its terms ask that it fits, and it doesn't.
+    fn insert_by(
+        &mut self,
+        now: u64,
+        hash: u64,
+        key: &[u8],
+        bytes: &[u8],
+        owner: u64,
+        terms: &LuffaTerms,
+        shown: &mut LuffaRecord,
+    ) -> Result<u32>
+        ensures { InsertsBy (asks_fit terms.now) now hash key.now bytes.now owner terms.now result shown.new self.old self.new }
+    {
+        if terms.only_if_fits() {
+            return match self.insert_if_fits(now, hash, key, bytes, owner, terms, shown) {
+                Ok(true) => Ok(status::OK),
+                Ok(false) => Ok(status::FULL),
+                Err(error) => Err(error),
+            };
+        }
+        match self.insert_entry(now, hash, key, bytes, owner, terms, shown) {
+            Ok(()) => Ok(status::OK),
             Err(error) => Err(error),
         }
     }
