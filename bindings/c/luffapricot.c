@@ -436,8 +436,10 @@ void luffa_destroy(luffa_cache *cache) {
     if (cache == NULL)
         return;
     for (size_t i = 0; i < cache->shards; i++) {
-        if (cache->slots[i].is_listening)
+        if (cache->slots[i].is_listening) {
             bulk_in(&cache->slots[i], CLEAR, 0, 0);
+            clear_each(&cache->slots[i]);
+        }
         free_owned(&cache->slots[i]);
     }
     free_cache(cache, cache->shards);

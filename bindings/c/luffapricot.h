@@ -196,9 +196,9 @@ static inline luffa_config luffa_config_default(uint32_t policy) {
 /* Creates a cache. F1 to F7, LUFFA_NO_POLICY or LUFFA_BAD_CONFIG; then *cache is NULL. */
 luffa_status luffa_create(const luffa_config *config, luffa_cache **cache);
 
-/* Tells the listener that all records leave (LUFFA_CLEAR), but for a shard's for whose list there is no memory, and
- * frees the cache with the entries that are still held. The listener and the callbacks of luffa_insert_owned may not
- * insert any more. NULL is allowed. */
+/* Tells the listener that all records leave (LUFFA_CLEAR), for which it needs no memory, and frees the cache with the
+ * entries that are still held. The listener and the callbacks of luffa_insert_owned may not insert any more. NULL is
+ * allowed. */
 void luffa_destroy(luffa_cache *cache);
 
 /* Inserts a record, which replaces that of its key. It never expires if `expires` is 0. F7 to F10. */

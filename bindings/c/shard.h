@@ -85,6 +85,7 @@ uint32_t luffa_shard_show_left(luffa_shard *, size_t number, size_t index, luffa
 uint32_t luffa_shard_list(luffa_shard *, size_t *number, size_t *count);
 uint32_t luffa_shard_show_listed(luffa_shard *, size_t number, size_t index, luffa_record *);
 uint32_t luffa_shard_remove_listed(luffa_shard *, size_t number, size_t index);
+uint32_t luffa_shard_clear_one(luffa_shard *, size_t *slot, luffa_record *);
 uint32_t luffa_shard_listen(luffa_shard *);
 uint32_t luffa_shard_fetch(luffa_shard *, luffa_at now, luffa_hashed hash, const uint8_t *key, size_t key_len,
                            luffa_record *, luffa_fetch *);

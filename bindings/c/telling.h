@@ -108,6 +108,21 @@ static luffa_status unlock_and_tell(struct slot *slot) {
     return status == LUFFA_NO_MEMORY ? status : LUFFA_OK;
 }
 
+/* Removes the records of a shard one after the other, and tells each, as well as what left and wasn't told. It needs no
+ * memory. The lock is not held. */
+static void clear_each(struct slot *slot) {
+    luffa_record record;
+    size_t place = 0;
+    lock(slot);
+    while (luffa_shard_clear_one(&slot->shard, &place, &record) == LUFFA_OK) {
+        unlock(slot);
+        tell_record(slot->cache, &record);
+        lock(slot);
+        end_departure(slot, &record);
+    }
+    unlock(slot);
+}
+
 /* Hands a record out as an entry whose use is counted, or ends its handle if nobody wants it. The lock is held. */
 static void give_counted(struct slot *slot, const luffa_record *record, luffa_entry *entry) {
     if (entry == NULL) {

@@ -272,10 +272,82 @@ static void repeat(uint32_t policy) {
     CHECK(bytes == before);
 }
 
+enum { MANY = 5000, SOME = 300, HELD = 40 };
+
+static int heard[MANY], freed[MANY];
+
+/* Hears of each record once, and removes another one. */
+static void hear_end(void *context, int event, const void *key, size_t len, const void *value, size_t value_len) {
+    uint64_t number;
+    memcpy(&number, key, 8);
+    CHECK(len == key_len && (value_len == 0 ? value == &freed[number] : memcmp(key, value, 8) == 0));
+    CHECK(context == heard && event >= LUFFA_REMOVE && ++heard[number] == 1);
+    if (number % 7 == 0) {
+        luffa_status status = luffa_remove(current, spelled(number + 1), key_len);
+        CHECK(is_fine(status) || status == LUFFA_MISSING);
+    }
+}
+
+static void free_told(void *context, void *value) {
+    CHECK(context == heard && heard[(int *)value - freed] == 1 && ++*(int *)value == 1);
+}
+
+/* Fills a cache, of which some entries are held, and one record that has left is not told. */
+static luffa_cache *filled(uint32_t policy, size_t shards, uint64_t count) {
+    const luffa_terms terms = {.weight = 1};
+    luffa_config config = luffa_config_default(policy);
+    luffa_entry entry;
+    memset(heard, 0, sizeof heard);
+    memset(freed, 0, sizeof freed);
+    config.capacity = 100 * MANY;
+    config.shards = shards;
+    config.listener = hear_end;
+    config.listener_context = heard;
+    CHECK(luffa_create(&config, &current) == LUFFA_OK);
+    for (uint64_t key = 0; key < count; key++)
+        if (key % 3 == 0)
+            CHECK(luffa_insert_owned(current, 0, spelled(key), key_len, &freed[key], &terms, free_told, heard, NULL) ==
+                  LUFFA_OK);
+        else
+            CHECK(luffa_insert(current, 0, spelled(key), key_len, &key, 8, 1, 0) == LUFFA_OK);
+    for (uint64_t key = 0; key < HELD; key++)
+        CHECK(luffa_get_entry(current, 0, spelled(2 * key), key_len, &entry) == LUFFA_OK);
+    for (uint64_t key = 1; key < count; key += 2) {
+        granted = 1; /* for the list of what left, and not for its number */
+        luffa_status status = luffa_remove_entry(current, spelled(key), key_len, &entry);
+        granted = -1;
+        if (status == LUFFA_OK && heard[key] == 0)
+            break;
+    }
+    return current;
+}
+
+/* A cache that ends without memory tells each of its records once. */
+static void end_many(uint32_t policy, size_t shards, uint64_t count) {
+    for (long fail = 0, before = -1; refusals != before && failures == 0; fail++) {
+        luffa_cache *cache = filled(policy, shards, count);
+        size_t entries = luffa_entries(cache), told_before = 0;
+        for (uint64_t key = 0; key < count; key++)
+            told_before += heard[key] != 0;
+        CHECK(told_before + entries < count || shards > 1 || key_len == LONG);
+        before = refusals;
+        granted = fail;
+        luffa_destroy(cache);
+        granted = -1;
+        for (uint64_t key = 0; key < count; key++)
+            CHECK(heard[key] == 1 && freed[key] == (key % 3 == 0));
+    }
+}
+
 int main(void) {
     for (uint32_t policy = LUFFA_FIFO; policy <= LUFFA_SIEVE; policy++) {
         key_len = policy % 2 == 0 ? 8 : LONG;
         repeat(policy);
+        for (only_one = 0; only_one < 2; only_one++) {
+            end_many(policy, 1, MANY);
+            end_many(policy, 17, SOME);
+            end_many(policy, 65, SOME);
+        }
         for (int how = 0; how < 4; how++)
             for (long fail = 0, before = -1; refusals != before && failures == 0; fail++) {
                 before = refusals;

@@ -22,6 +22,7 @@ static void all_closed(luffa_shard *shard) {
     CHECK(luffa_shard_list(shard, &number, &len) == LUFFA_NOT_OPEN && luffa_shard_listen(shard) == LUFFA_NOT_OPEN);
     CHECK(luffa_shard_show_listed(shard, 0, 0, &record) == LUFFA_NOT_OPEN);
     CHECK(luffa_shard_remove_listed(shard, 0, 0) == LUFFA_NOT_OPEN);
+    CHECK(luffa_shard_clear_one(shard, &number, &record) == LUFFA_NOT_OPEN);
     CHECK(luffa_shard_remove(shard, HASH, key, 1, &record) == LUFFA_NOT_OPEN);
     CHECK(luffa_shard_contains(shard, NOW, HASH, key, 1) == LUFFA_NOT_OPEN);
     CHECK(luffa_shard_touch(shard, NOW, HASH, key, 1) == LUFFA_NOT_OPEN);
@@ -94,6 +95,35 @@ static void untold(luffa_shard *shard) {
     CHECK(luffa_shard_take_left(shard, &number, &count) == LUFFA_OK && count == 2);
 }
 
+/* Records leave one by one: those that have left and weren't taken, the last one first, and then all that are resident,
+ * whatever the slot. Each is readable until the next one, and what is held after that. */
+static void one_by_one(luffa_shard *shard) {
+    static const size_t SLOTS[] = {0, 1, 3, SIZE_MAX};
+    for (size_t i = 0; i < 4; i++) {
+        luffa_record record, held;
+        luffa_load load;
+        size_t slot = SLOTS[i];
+        unsigned gone = 0;
+        for (uint64_t key = 0; key < 5; key++)
+            CHECK(luffa_shard_insert(shard, NOW, (luffa_hashed){key}, (uint8_t *)&key, 8, (uint8_t *)&key, 8, 1, 0) ==
+                  LUFFA_OK);
+        uint64_t last = 4;
+        CHECK(luffa_shard_get_entry(shard, NOW, (luffa_hashed){last}, (uint8_t *)&last, 8, &held) == LUFFA_OK);
+        for (uint64_t key = 3; key-- > 0;) {
+            CHECK(luffa_shard_clear_one(shard, &slot, &record) == LUFFA_OK && record.event == LUFFA_EVICT);
+            CHECK(memcmp(record.key, &key, 8) == 0 && memcmp(record.value, &key, 8) == 0 && slot == SLOTS[i]);
+        }
+        for (int j = 0; j < 2; j++) {
+            CHECK(luffa_shard_clear_one(shard, &slot, &record) == LUFFA_OK && record.event == LUFFA_CLEAR);
+            CHECK(memcmp(record.key, record.value, 8) == 0);
+            gone |= 1U << *(const uint8_t *)record.key;
+        }
+        CHECK(gone == (1 << 3 | 1 << 4) && luffa_shard_clear_one(shard, &slot, &record) == LUFFA_MISSING);
+        CHECK(luffa_shard_load(shard, &load) == LUFFA_OK && load.entries == 0 && load.usage == 0);
+        CHECK(memcmp(held.value, &last, 8) == 0 && luffa_shard_release(shard, held.number) == LUFFA_OK);
+    }
+}
+
 int main(void) {
     luffa_shard shard = {0};
     luffa_policy policy = luffa_config_default(LUFFA_FIFO).policy;
@@ -106,6 +136,7 @@ int main(void) {
     CHECK(luffa_shard_create(&shard, &policy, 2, true) == LUFFA_IS_OPEN);
     wrong_numbers(&shard);
     untold(&shard);
+    one_by_one(&shard);
     CHECK(luffa_shard_load(&shard, &load) == LUFFA_OK && load.entries == 0 && load.usage_high == 0);
     CHECK(luffa_shard_destroy(&shard) == LUFFA_OK); /* with a number that is held */
     all_closed(&shard);

@@ -10,3 +10,4 @@ pub mod CallLemmas
 pub mod OpenLemmas
 pub mod ReleaseLemmas
 pub mod NamedLemmas
+pub mod WalkLemmas

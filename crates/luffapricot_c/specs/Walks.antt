@@ -1,12 +1,14 @@
 -- What the calls for walks over the records of a cache of bytes make of it.
-use Rattle.std.specs.Prelude.{◌≡◌, ℕ, Bool, true, false, [], ◌∷◌, Option, None, Some, Result, Ok, Err, IsSomeAnd, MatchOption, length, slice_get}
+use Rattle.std.specs.Prelude.{◌≡◌, ◌⊎◌, ℕ, ◌++◌, Bool, true, false, [], ◌∷◌, Option, None, Some, Result, Ok, Err, IfSome, IsSomeAnd, MatchOption, length, slice_get}
 use Rattle.std.specs.Global.{Vec}
 use Rattle.slab.specs.Slab.{Updates, get}
 use Rattle.foyer_policy.specs.declared.error.Reason.{Reason}
-use Rattle.foyer_policy.specs.declared.types.Event.TheVariants.{Remove}
+use Rattle.foyer_policy.specs.declared.types.Event.{Event}
+use Rattle.foyer_policy.specs.declared.types.Event.TheVariants.{Clear, Remove}
 use Rattle.foyer_core.specs.Bulk.{TakesRecordOut}
 use Rattle.foyer_core.specs.Core.{AtShard, shard_at}
 use Rattle.foyer_core.specs.Cores.{core_of, meaning_of_core}
+use Rattle.foyer_core.specs.Holds.{HasNoResident}
 use Rattle.foyer_core.specs.ResidentPieces.{ArePieces, is_resident}
 use Rattle.foyer_core.specs.Values.{Answered, Carried, Gone}
 use Rattle.luffapricot_c.specs.declared.cache.ByteCache.{ByteCache}
@@ -19,6 +21,7 @@ use Rattle.luffapricot_c.specs.declared.value.Value.{Value}
 use Rattle.luffapricot_c.specs.Bytes.{ShowsParts}
 use Rattle.luffapricot_c.specs.Calls.{IsToldOf, Lacks}
 use Rattle.luffapricot_c.specs.Frames.{Frames}
+use Rattle.luffapricot_c.specs.Releases.{ShowsGone}
 
 -- the records of the shard, in the policy's order, are listed under a number that named nothing
 pub record ListsAll (number count : ℕ) (old new : ByteCache) : Type 0 where
@@ -84,3 +87,30 @@ RemovesListed (Some piece) (Ok false) old new = StillIs false piece old × (core
     × Frames old new
 RemovesListed None (Err reason) old new = Lacks reason old new
 RemovesListed (Some piece) (Err reason) old new = Lacks reason old new
+
+-- a record is taken out, which leaves as cleared, with some id in the shard of some hash
+pub record TakesOne (gone : Event × Gone Key Value Answered) (old new : ByteCache) : Type 0 where
+  pub hash : ℕ
+  pub id : ℕ
+  pub event : gone.0 ≡ Clear
+  pub takes : AtShard (λ s t. TakesRecordOut (meaning_of_core old.core) s id gone.1 t) hash
+      (core_of old.core) (core_of new.core)
+  pub rest : Frames old new
+
+-- so if there is one in the index, and else nothing changes
+abbrev pub TakesAny : Option (Event × Gone Key Value Answered) → ByteCache → ByteCache → Type 0
+TakesAny (Some gone) old new = TakesOne gone old new
+TakesAny None old new = IfSome (slice_get (core_of old.core).shards 0) HasNoResident × (new.core ≡ old.core)
+    × Frames old new
+
+-- this is the last record that left and wasn't taken, or else one that is taken out now
+abbrev pub LeavesNext : Event × Gone Key Value Answered → ByteCache → ByteCache → Type 0
+LeavesNext gone old new = ((old.left.items ≡ new.left.items ++ gone ∷ []) × (new.core ≡ old.core)
+    × Frames (record old { left = new.left }) new)
+    ⊎ ((old.left.items ≡ []) × TakesOne gone old new)
+
+-- the next record is shown, and kept so that it can be read; or there is none
+abbrev pub ClearsOne : Bool → LuffaRecord → ByteCache → ByteCache → Type 0
+ClearsOne true shown old new = (gone : Event × Gone Key Value Answered) × LeavesNext gone old new
+    × ShowsGone shown gone × (new.last_shown ≡ Some gone)
+ClearsOne false shown old new = (old.left.items ≡ []) × TakesAny None old new

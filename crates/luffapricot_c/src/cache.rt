@@ -54,6 +54,8 @@ pub struct ByteCache {
     holds: Slab<Hold>,
     // What left and was not taken yet, in order. Without a listener it is empty between calls.
     left: Vec<Gone>,
+    // What `clear_one` showed last, kept so that it can be read.
+    last_shown: Option<Gone>,
     has_listener: bool,
     alloc: Global,
 }
@@ -87,6 +89,7 @@ impl ByteCache {
                 asked: Key::empty(alloc),
                 holds: Slab::new(alloc),
                 left: Vec::new(alloc),
+                last_shown: None,
                 has_listener,
                 alloc,
             }),

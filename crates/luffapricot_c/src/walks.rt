@@ -4,7 +4,7 @@ ghost use Rattle.std.specs.Prelude.{◌≡◌, true};
 ghost use Rattle.slab.specs.Slab.{get};
 ghost use Rattle.luffapricot_c.specs.Calls.{OnHeld};
 ghost use Rattle.luffapricot_c.specs.Statuses.{Tells, done_of, found_of, open_status};
-ghost use Rattle.luffapricot_c.specs.Walks.{Lists, RemovesListed, ShowsAt, listed_at};
+ghost use Rattle.luffapricot_c.specs.Walks.{ClearsOne, Lists, RemovesListed, ShowsAt, listed_at};
 
 use crate::record::LuffaRecord;
 use crate::{LuffaShard, status};
@@ -83,4 +83,25 @@ pub extern "C" fn luffa_shard_listen(shard: &mut LuffaShard, alloc: Global) -> u
     cache.listen();
     *shard = LuffaShard::of(cache);
     status::OK
+}
+
+/// Shows a record that has left and wasn't taken, the last one first, or else one that is removed now. It can be read
+/// until the next such call. `slot` begins as 0, and is a call's hint for the next. Takes no memory. 0, MISSING if there
+/// is none, or NOT_OPEN.
+#[unsafe(no_mangle)]
+pub extern "C" fn luffa_shard_clear_one(
+    shard: &mut LuffaShard,
+    alloc: Global,
+    slot: &mut usize,
+    shown: &mut LuffaRecord,
+) -> u32
+    ensures { OnHeld (λ old status new. Tells open_status (λ answer. ClearsOne answer shown.new old new) status)
+        shard.old.address.held result shard.new.address.held }
+{
+    let Some(mut cache) = shard.take(alloc) else {
+        return status::NOT_OPEN;
+    };
+    let status = status::of_open(cache.clear_one(slot, shown));
+    *shard = LuffaShard::of(cache);
+    status
 }

@@ -1,12 +1,13 @@
 //! Walks over the records of a cache, by lists of them.
 
-ghost use Rattle.std.specs.Prelude.{◌≡◌, true, option_copied};
+ghost use Rattle.std.specs.Prelude.{◌≡◌, Some, true, option_copied};
 ghost use Rattle.slab.specs.Slab.{get};
-ghost use Rattle.luffapricot_c.specs.Walks.{Lists, RemovesListed, ShowsAt, listed_at};
+ghost use Rattle.luffapricot_c.specs.Releases.{ShowsGone};
+ghost use Rattle.luffapricot_c.specs.Walks.{ClearsOne, Lists, RemovesListed, ShowsAt, TakesAny, listed_at};
 
 use super::ByteCache;
 use super::holds::forget_left;
-use crate::hold::{Held, Hold, Listed};
+use crate::hold::{Gone, Held, Hold, Listed};
 use crate::record::LuffaRecord;
 use foyer_policy::{Event, Result};
 use slab::Slab;
@@ -69,5 +70,46 @@ impl ByteCache {
         ensures { self.new ≡ record self.old { has_listener = true } }
     {
         self.has_listener = true;
+    }
+
+    /// Shows a record that has left and wasn't taken, the last one first, or else one that is removed now. Whether there
+    /// is one. It can be read until the next such call.
+    ///
+    /// Takes no memory. `slot` begins as 0; with the one from the call before, no slot is passed in vain.
+    pub(crate) fn clear_one(&mut self, slot: &mut usize, shown: &mut LuffaRecord) -> bool
+        ensures { ClearsOne result shown.new self.old self.new }
+    {
+        if let Some(gone) = self.left.pop() {
+            self.show_next(gone, shown);
+            return true;
+        }
+        match self.take_any(slot) {
+            Some(gone) => {
+                self.show_next(gone, shown);
+                true
+            }
+            None => false,
+        }
+    }
+
+    // Shows a record that left, and keeps it, so that it can be read.
+    fn show_next(&mut self, gone: Gone, shown: &mut LuffaRecord)
+        ensures shows { ShowsGone shown.new gone }
+        ensures kept { self.new ≡ record self.old { last_shown = Some gone } }
+    {
+        shown.show_gone(&gone);
+        self.last_shown = Some(gone);
+    }
+
+    // Removes a record, if there is one.
+    fn take_any(&mut self, slot: &mut usize) -> Option<Gone>
+        ensures { TakesAny result self.old self.new }
+    {
+        let name = self.core.resident_from(0, *slot)?;
+        *slot = name.slot;
+        match self.core.remove_this(name) {
+            Some(left) => Some((Event::Clear, left)),
+            None => unreachable!(),
+        }
     }
 }
