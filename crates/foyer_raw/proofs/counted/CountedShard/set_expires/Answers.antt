@@ -1,13 +1,15 @@
-use Rattle.std.proofs.Common.{◌≡◌, ◌+◌, ◌∙◌, ap, inl, inr, rules, vec_len, Some}
+use Rattle.std.proofs.Common.{◌+◌, ◌∙◌, ap, inl, inr, rules, vec_len, Some}
 use Rattle.std.specs.Prelude.{Ok, Err}
 use Rattle.foyer_policy.specs.Properties.{is_phantom}
 use Rattle.foyer_core.specs.NoEntry.{PutsAnswering, last_of}
 use Rattle.foyer_core.specs.Shards.{state_of, meaning_of, opens_of}
 use Rattle.foyer_core.specs.State.{key_of}
+use Rattle.foyer_core.specs.Stats.{counted}
 use Rattle.foyer_core.specs.Steps.{Gets, newcomer}
 use Rattle.foyer_core.specs.Waited.{waiting_for}
+use Rattle.foyer_core.specs.declared.stats.Counted.TheVariants.{Refused}
 use Rattle.foyer_core.proofs.StoredLemmas.{err_is}
-use Rattle.foyer_raw.specs.Conditional.{IsAgain, SetsExpiry, Uses}
+use Rattle.foyer_raw.specs.Conditional.{IsAgain, SetsExpiry}
 use Rattle.foyer_raw.specs.Counts.{leaves_counted, put_counted}
 use Rattle.foyer_raw.proofs.Used.{behind_nothing, from_nothing, puts_again, used}
 use Rattle.foyer_raw.proofs.counted.CountedShard.set_expires.Goals as goal
@@ -66,11 +68,11 @@ returns-in_err-put_answering-in-Some-kept g c =
     c.in-Some-kept.ensures (c.take_back.ensures.opens ∙ c.get.ensures.opens) c.count-2.ensures
     (from_nothing c.args.leaves.now.items c.put_answering.new.leaves.items
     (λ ls. PutsAnswering m c.args.now.0 (state_of back)
-    (newcomer (state_of back) kept (1 + waiting_for (opens_of back) (key_of kept))) (last_of (Err put.field-0.0)) ls
+    (newcomer (state_of back) kept (1 + waiting_for (opens_of back) (key_of kept))) (Err put.field-0.0) ls
     (state_of c.put_answering.new.self.shard)) c.requires.untold put.ensures.puts)
     put.ensures.answers put.ensures.opens (put.ensures.counts
     ∙ ap (λ ls. leaves_counted m.phantom m.expires c.args.now.0 ls
-    (put_counted (is_phantom (m.phantom kept.properties)) (Err put.field-0.0) c.count-2.new.self))
+    (counted Refused c.count-2.new.self))
     (behind_nothing c.args.leaves.now.items c.put_answering.new.leaves.items (vec_len c.args.leaves.now)
     c.requires.untold c.args.leaves.now.ok.0))))
 
