@@ -1,26 +1,99 @@
-use Rattle.std.proofs.Common.{rules, ◌≡◌, ◌+◌, [], IfNone, IfOk, IfSome, IsTrue, MatchResult, None, Ok, false, option_copied, true, ◌↔◌, ℕ, ◌-◌, ◌*◌, ◌<◌, ◌≤◌, length, ◌/◌, ◌%◌, Bool, nat_eq, nat_lt, List, ◌∷◌, ◌++◌, slice_index_or, slice_set, bit_and, bit_or, w8, w32, w64, Bor, MutBor}
-use Rattle.foyer_policy.specs.Moments.{is_expired}
-use Rattle.foyer_core.specs.Bulk.{TakesRecordOut}
-use Rattle.foyer_core.specs.Conditional.{Fits}
-use Rattle.foyer_core.specs.Inflight.{closed, waiters_of}
-use Rattle.foyer_core.specs.Pieces.{is_in}
-use Rattle.foyer_core.specs.State.{key_of}
-use Rattle.foyer_core.specs.Steps.{Gets}
-use Rattle.foyer_core.specs.Waited.{AnswersEach, waiting_for}
-use Rattle.foyer_raw.specs.Conditional.{IfChanged, IfFitting, IfFound, IfInserted, IfInserting, InsertsOnto, IsAgain, SetsExpiry, StillHas}
-use Rattle.foyer_raw.specs.Counts.{leaves_counted, made_counted}
-use Rattle.foyer_raw.specs.Told.{IsOf, IsUntold, taken_out, told_of}
+use Rattle.std.proofs.Common.{◌+◌, ◌∙◌, ap, inl, inr, rules, vec_len, Some}
+use Rattle.std.specs.Prelude.{Ok, Err}
+use Rattle.foyer_policy.specs.Properties.{is_phantom}
+use Rattle.foyer_core.specs.NoEntry.{PutsAnswering, last_of}
 use Rattle.foyer_core.specs.Shards.{state_of, meaning_of, opens_of}
+use Rattle.foyer_core.specs.State.{key_of}
+use Rattle.foyer_core.specs.Stats.{counted}
+use Rattle.foyer_core.specs.Steps.{Gets, newcomer}
+use Rattle.foyer_core.specs.Waited.{waiting_for}
+use Rattle.foyer_core.specs.declared.stats.Counted.TheVariants.{Refused}
+use Rattle.foyer_core.proofs.StoredLemmas.{err_is}
+use Rattle.foyer_raw.specs.Conditional.{IsAgain, SetsExpiry}
+use Rattle.foyer_raw.specs.Counts.{leaves_counted, put_counted}
+use Rattle.foyer_raw.proofs.Used.{behind_nothing, from_nothing, puts_again, used}
 use Rattle.foyer_raw.proofs.counted.CountedShard.set_expires.Goals as goal
 
--- src/counted/conditional.rt:207:35
-pub returns-in_err-put_answering-in-Some-kept : goal.returns-in_err-put_answering-in-Some-kept
-returns-in_err-put_answering-in-Some-kept g c = ?
-
--- src/counted/conditional.rt:181:5
 pub returns-in_ok-put_answering-in-Some-kept : goal.returns-in_ok-put_answering-in-Some-kept
-returns-in_ok-put_answering-in-Some-kept g c = ?
+returns-in_ok-put_answering-in-Some-kept g c =
+    let s = c.args.self.now in
+    let m = meaning_of s.shard in
+    let mid = state_of c.get.new.self in
+    let back = c.take_back.new.self in
+    let kept = c.in-Some-kept.kept in
+    let put = c.in_ok-put_answering-in-Some-kept in
+    let gets : Gets m c.args.now.0 (state_of s.shard) c.args.key (Ok (Some c.in-Some.entry)) mid =
+    rw (← c.key.view_is) (rw c.in-Some.is at c.in_ok-entry.ensures.gets) in
+    puts_again m c.args.now.0
+    (IsAgain g.K.Clone.is_clone g.V.Clone.is_clone g.P.Clone.is_clone g.P.Properties.with_expiry_of c.args.expires)
+    c.args.key (Ok put.field-0) c.put_answering.new.leaves.items (state_of s.shard) (state_of back)
+    (state_of c.put_answering.new.self.shard) c.in-Some.entry kept (opens_of s.shard) (opens_of back)
+    (opens_of c.put_answering.new.self.shard) s.stats c.count-2.new.self c.put_answering.new.self.stats
+    (used m g.met.K.Eq.laws g.met.E.Eviction.lawful c.args.now.0 (state_of s.shard) s.shard.store.sound c.args.key
+    c.in-Some.entry mid gets c.take_back.result (state_of back) c.take_back.ensures.taken c.take_back.ensures.foreign)
+    c.in-Some-kept.ensures (c.take_back.ensures.opens ∙ c.get.ensures.opens) c.count-2.ensures
+    (from_nothing c.args.leaves.now.items c.put_answering.new.leaves.items
+    (λ ls. PutsAnswering m c.args.now.0 (state_of back)
+    (newcomer (state_of back) kept (1 + waiting_for (opens_of back) (key_of kept))) (last_of (Ok put.field-0)) ls
+    (state_of c.put_answering.new.self.shard)) c.requires.untold put.ensures.puts)
+    put.ensures.answers put.ensures.opens (put.ensures.counts
+    ∙ ap (λ ls. leaves_counted m.phantom m.expires c.args.now.0 ls
+    (put_counted (is_phantom (m.phantom kept.properties)) (Ok put.field-0) c.count-2.new.self))
+    (behind_nothing c.args.leaves.now.items c.put_answering.new.leaves.items (vec_len c.args.leaves.now)
+    c.requires.untold c.args.leaves.now.ok.0))
 
--- src/counted/conditional.rt:181:5
+pub returns-in_err-put_answering-in-Some-kept : goal.returns-in_err-put_answering-in-Some-kept
+returns-in_err-put_answering-in-Some-kept g c =
+    let s = c.args.self.now in
+    let m = meaning_of s.shard in
+    let mid = state_of c.get.new.self in
+    let back = c.take_back.new.self in
+    let kept = c.in-Some-kept.kept in
+    let put = c.in_err-put_answering-in-Some-kept in
+    let gets : Gets m c.args.now.0 (state_of s.shard) c.args.key (Ok (Some c.in-Some.entry)) mid =
+    rw (← c.key.view_is) (rw c.in-Some.is at c.in_ok-entry.ensures.gets) in
+    err_is c.from_residual-in_err-put_answering-in-Some-kept.result put.field-0.0
+    (λ r. SetsExpiry m c.args.now.0
+    (IsAgain g.K.Clone.is_clone g.V.Clone.is_clone g.P.Clone.is_clone g.P.Properties.with_expiry_of c.args.expires)
+    c.args.key r c.put_answering.new.leaves.items (state_of s.shard) (state_of c.put_answering.new.self.shard)
+    (opens_of s.shard) (opens_of c.put_answering.new.self.shard) s.stats c.put_answering.new.self.stats)
+    c.from_residual-in_err-put_answering-in-Some-kept.ensures.1
+    (inl (puts_again m c.args.now.0
+    (IsAgain g.K.Clone.is_clone g.V.Clone.is_clone g.P.Clone.is_clone g.P.Properties.with_expiry_of c.args.expires)
+    c.args.key (Err put.field-0.0) c.put_answering.new.leaves.items (state_of s.shard) (state_of back)
+    (state_of c.put_answering.new.self.shard) c.in-Some.entry kept (opens_of s.shard) (opens_of back)
+    (opens_of c.put_answering.new.self.shard) s.stats c.count-2.new.self c.put_answering.new.self.stats
+    (used m g.met.K.Eq.laws g.met.E.Eviction.lawful c.args.now.0 (state_of s.shard) s.shard.store.sound c.args.key
+    c.in-Some.entry mid gets c.take_back.result (state_of back) c.take_back.ensures.taken c.take_back.ensures.foreign)
+    c.in-Some-kept.ensures (c.take_back.ensures.opens ∙ c.get.ensures.opens) c.count-2.ensures
+    (from_nothing c.args.leaves.now.items c.put_answering.new.leaves.items
+    (λ ls. PutsAnswering m c.args.now.0 (state_of back)
+    (newcomer (state_of back) kept (1 + waiting_for (opens_of back) (key_of kept))) (Err put.field-0.0) ls
+    (state_of c.put_answering.new.self.shard)) c.requires.untold put.ensures.puts)
+    put.ensures.answers put.ensures.opens (put.ensures.counts
+    ∙ ap (λ ls. leaves_counted m.phantom m.expires c.args.now.0 ls
+    (counted Refused c.count-2.new.self))
+    (behind_nothing c.args.leaves.now.items c.put_answering.new.leaves.items (vec_len c.args.leaves.now)
+    c.requires.untold c.args.leaves.now.ok.0))))
+
 pub returns-in-None : goal.returns-in-None
-returns-in-None g c = ?
+returns-in-None g c =
+    let s = c.args.self.now in
+    let m = meaning_of s.shard in
+    let mid = state_of c.get.new.self in
+    let gets : Gets m c.args.now.0 (state_of s.shard) c.args.key (Ok (Some c.in-Some.entry)) mid =
+    rw (← c.key.view_is) (rw c.in-Some.is at c.in_ok-entry.ensures.gets) in
+    inr (
+      c.requires.untold,
+      c.take_back.ensures.opens ∙ c.get.ensures.opens,
+      inr (
+        (search rules),
+        (
+          c.in-Some.entry,
+          used m g.met.K.Eq.laws g.met.E.Eviction.lawful c.args.now.0 (state_of s.shard) s.shard.store.sound c.args.key
+              c.in-Some.entry mid gets c.take_back.result (state_of c.take_back.new.self) c.take_back.ensures.taken
+              c.take_back.ensures.foreign,
+        ),
+        (search rules),
+      ),
+    )
