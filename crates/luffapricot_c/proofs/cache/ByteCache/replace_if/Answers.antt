@@ -1,4 +1,4 @@
-use Rattle.std.proofs.Common.{inl, inr, false, refl, true}
+use Rattle.std.proofs.Common.{inr, false, refl, true}
 use Rattle.slab.specs.Slab.{get}
 use Rattle.luffapricot_c.specs.Conditional.{seen_at}
 use Rattle.luffapricot_c.proofs.NamedLemmas.{replaces_by}

@@ -6,8 +6,8 @@ pub unreachable-requires : goal.unreachable-requires
 unreachable-requires c = leaves c.in_ok-name.name c.args.self.now c.in_ok-name.ensures.some.1
     (rw c.in-None.is at c.remove_this.ensures.resident)
 
-pub returns-in-Some : goal.returns-in-Some
-returns-in-Some c = record {
+pub returns : goal.returns
+returns c = record {
   hash = c.in_ok-name.name.hash;
   id = c.in_ok-name.name.id;
   event = refl;
