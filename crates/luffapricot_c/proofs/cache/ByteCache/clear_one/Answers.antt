@@ -18,7 +18,7 @@ returns-in-Some-take_any c =
     rw c.show_next-in-Some-take_any.ensures.kept (
       c.in-Some-take_any.gone,
       next_taken old c.pop.new.self none (rw c.in_default.is at c.pop.ensures.items) c.take_any.new.self _ _
-      (rw c.in-Some-take_any.is at c.take_any.ensures),
+          (rw c.in-Some-take_any.is at c.take_any.ensures),
       c.show_next-in-Some-take_any.ensures.shows,
       refl,
     )
@@ -26,6 +26,8 @@ returns-in-Some-take_any c =
 pub returns-in-None : goal.returns-in-None
 returns-in-None c =
     let old = c.args.self.now in
-    let none = nil_from_length old.left.items (omega (arith, old.left.ok.0, c.in_default.ensures.cases.0)) in
-    (none, next_none old c.pop.new.self none (rw c.in_default.is at c.pop.ensures.items) c.take_any.new.self
-    (rw c.in-None.is at c.take_any.ensures))
+    let none = nil_from_length old.left.items (omega (arith, old.left.ok.0, c.in_default.ensures.cases.0)) in (
+      none,
+      next_none old c.pop.new.self none (rw c.in_default.is at c.pop.ensures.items) c.take_any.new.self
+          (rw c.in-None.is at c.take_any.ensures),
+    )
