@@ -1,15 +1,16 @@
 /* The nodes of a cache, their records, and the fetches of their values. */
 #include "cache.h"
 
-/* Spreads the hash of a Python object, which for an int is that int, over 32 bits: LFU divides it, and processors
- * divide a number of 64 bits slowly. */
+/* Spreads the hash of a Python object, which for an int is that int. tests/sizes turns it round. */
 uint64_t hash_node(void *context, const void *key, size_t key_len) {
     const node *it;
     (void)context;
     (void)key_len;
     memcpy(&it, key, sizeof it);
-    unsigned __int128 product = (unsigned __int128)((uint64_t)it->hash ^ 0x9E3779B97F4A7C15u) * 0xD6E8FEB86659FD93u;
-    return ((uint64_t)product ^ (uint64_t)(product >> 64)) >> 32;
+    uint64_t hash = (uint64_t)it->hash;
+    hash = (hash ^ hash >> 32) * 0xD6E8FEB86659FD93u;
+    hash = (hash ^ hash >> 32) * 0xD6E8FEB86659FD93u;
+    return hash ^ hash >> 32;
 }
 
 /* Takes a node out of the table that no record and no call needs. */
