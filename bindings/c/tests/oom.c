@@ -313,7 +313,7 @@ static luffa_cache *filled(uint32_t policy, size_t shards, uint64_t count) {
     for (uint64_t key = 0; key < HELD; key++)
         CHECK(luffa_get_entry(current, 0, spelled(2 * key), key_len, &entry) == LUFFA_OK);
     for (uint64_t key = 1; key < count; key += 2) {
-        granted = 1; /* for the list of what left, and not for its number */
+        granted = key == 1; /* for the list of what left, which keeps its room, and for no number */
         luffa_status status = luffa_remove_entry(current, spelled(key), key_len, &entry);
         granted = -1;
         if (status == LUFFA_OK && heard[key] == 0)
