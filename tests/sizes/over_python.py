@@ -10,7 +10,7 @@ import sys
 from luffapricot import Cache, Error
 
 MASK = 2**64 - 1
-UNMIX = pow(0xD6E8FEB86659FD93, -1, 2**64)
+FACTORS = {32: 0x45D9F3B, 64: 0xD6E8FEB86659FD93}
 MOST_DIGITS = 20
 NUMBERS = {"insert": (2, 3, 4), "get": (1,), "contains": (1,), "remove": (1,), "drop": (1,), "clear": (0,), "resize": (1,), "at": (1,), "high": (2,)}
 
@@ -20,9 +20,10 @@ class Key:
 
     def __init__(self, number):
         self.number = number
+        bits = 32 if number < 2**32 else 64
         for _ in range(2):
-            number = (number ^ number >> 32) * UNMIX & MASK
-        number ^= number >> 32
+            number = (number ^ number >> bits // 2) * pow(FACTORS[bits], -1, 2**bits) % 2**bits
+        number ^= number >> bits // 2
         self.hash = number - 2**64 if number >> 63 else number
 
     def __hash__(self):

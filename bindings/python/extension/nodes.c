@@ -1,13 +1,20 @@
 /* The nodes of a cache, their records, and the fetches of their values. */
 #include "cache.h"
 
-/* Spreads the hash of a Python object, which for an int is that int. tests/sizes turns it round. */
+/* Spreads the hash of a Python object, which for an int is that int: over 32 bits if it has no more, since LFU divides
+ * it, and processors divide 64 bits slowly. tests/sizes turns it round. */
 uint64_t hash_node(void *context, const void *key, size_t key_len) {
     const node *it;
     (void)context;
     (void)key_len;
     memcpy(&it, key, sizeof it);
     uint64_t hash = (uint64_t)it->hash;
+    if (hash <= UINT32_MAX) {
+        uint32_t low = (uint32_t)hash;
+        low = (low ^ low >> 16) * 0x45D9F3Bu;
+        low = (low ^ low >> 16) * 0x45D9F3Bu;
+        return low ^ low >> 16;
+    }
     hash = (hash ^ hash >> 32) * 0xD6E8FEB86659FD93u;
     hash = (hash ^ hash >> 32) * 0xD6E8FEB86659FD93u;
     return hash ^ hash >> 32;
