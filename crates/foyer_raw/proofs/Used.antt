@@ -59,5 +59,5 @@ module _ {K V P View C : Type 0} (m : Meaning K P View C) (laws : IsEquivalence 
   used (Ok leave) new taken foreign = given_back leave new taken.1
   used (Err e) new taken (inl other) = absurd (other number)
   used (Err e) new taken (inr no) = absurd (
-    let is : gets.0.handles + 1 ≡ 0 = sym (ap handles_of there) ∙ no in
-    omega (arith, is))
+      let is : gets.0.handles + 1 ≡ 0 = sym (ap handles_of there) ∙ no in
+      omega (arith, is))
