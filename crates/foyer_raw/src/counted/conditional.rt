@@ -192,7 +192,8 @@ impl<E: Eviction, K: Key, V: Value, P: Properties, R: Drop, I: Finder<K>> Counte
         requires clones { (k c : K) → K.is_clone k c → K.eq c k ≡ true }
         requires untold { leaves.old.items ≡ [] }
         ensures { SetsExpiry (meaning_of self.old.shard) now.0 (IsAgain K.is_clone V.is_clone P.is_clone P.with_expiry_of expires) key.entry result
-            leaves.new.items (state_of self.old.shard) (state_of self.new.shard) (opens_of self.old.shard) (opens_of self.new.shard) self.old.stats self.new.stats }
+            leaves.new.items (state_of self.old.shard) (state_of self.new.shard)
+            (opens_of self.old.shard) (opens_of self.new.shard) self.old.stats self.new.stats }
     {
         let Some(entry) = self.shard.get(now.0, key.hash, key.key)? else {
             self.stats.count(Counted::Miss);
