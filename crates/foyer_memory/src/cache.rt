@@ -16,11 +16,9 @@ use std::sync::{Arc, Wait};
 
 mod blocking;
 mod bulk;
-mod conditional;
 mod fetching;
 mod insertion;
 mod keys;
-mod walks;
 
 /// An in-memory cache that threads share, with one of five eviction policies.
 pub struct Cache<
@@ -129,10 +127,8 @@ where
         ensures kind { IfOk result (λ again. again.kind ≡ self.now.kind) }
         ensures shared { IfOk result (λ again. arc_value again.cache.shares.shared ≡ arc_value self.now.cache.shares.shared) }
     {
-        Ok(Cache {
-            cache: self.cache.try_clone()?,
-            kind: self.kind,
-        })
+        let (cache, kind) = (self.cache.try_clone()?, self.kind);
+        Ok(Cache { cache, kind })
     }
 
     /// Returns the cache with this pipe, which its later entries, clones and tasks have too.

@@ -172,10 +172,8 @@ where
         ensures record { IfOk result (λ e. e.entry.kept ≡ self.now.entry.kept) }
         ensures kind { IfOk result (λ e. e.kind ≡ self.now.kind) }
     {
-        Ok(CacheEntry {
-            entry: self.entry.try_clone()?,
-            kind: self.kind,
-        })
+        let (entry, kind) = (self.entry.try_clone()?, self.kind);
+        Ok(CacheEntry { entry, kind })
     }
 
     /// Gives the handle back, as the entry's drop does.

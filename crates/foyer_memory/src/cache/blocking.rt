@@ -44,10 +44,8 @@ where
         requires callable { F.IsAlwaysCallable make }
         ensures kind { IfOk result (λ e. e.kind ≡ self.now.kind) }
     {
-        Ok(CacheEntry {
-            entry: self.cache.get_or_insert_with(now, key, make)?,
-            kind: self.kind,
-        })
+        let (entry, kind) = (self.cache.get_or_insert_with(now, key, make)?, self.kind);
+        Ok(CacheEntry { entry, kind })
     }
 
     /// Returns an entry of the key's record as `get_or_insert_with` does. The closure returns the properties too, such as
@@ -67,10 +65,11 @@ where
         requires callable { F.IsAlwaysCallable make }
         ensures kind { IfOk result (λ e. e.kind ≡ self.now.kind) }
     {
-        Ok(CacheEntry {
-            entry: self.cache.get_or_insert_with_properties(now, key, make)?,
-            kind: self.kind,
-        })
+        let (entry, kind) = (
+            self.cache.get_or_insert_with_properties(now, key, make)?,
+            self.kind,
+        );
+        Ok(CacheEntry { entry, kind })
     }
 }
 
@@ -106,9 +105,10 @@ where
         requires future { R.can_poll fetch }
         ensures kind { IfOk result (λ e. e.kind ≡ self.now.kind) }
     {
-        Ok(CacheEntry {
-            entry: self.cache.get_or_fetch_blocking(now, key, fetch)?,
-            kind: self.kind,
-        })
+        let (entry, kind) = (
+            self.cache.get_or_fetch_blocking(now, key, fetch)?,
+            self.kind,
+        );
+        Ok(CacheEntry { entry, kind })
     }
 }

@@ -56,12 +56,11 @@ where
         ensures live { IfOk result (λ look. IfSome (entry_of look.look) (λ e. is_expired now (P.expiry_of e.kept.properties) ≡ false)) }
         ensures kind { IfOk result (λ look. look.kind ≡ self.now.kind) }
     {
-        Ok(GetOrFetch {
-            look: self
-                .cache
-                .get_or_fetch_inner(now, key, fo, fr, context, spawner)?,
-            kind: self.kind,
-        })
+        let kind = self.kind;
+        let look = self
+            .cache
+            .get_or_fetch_inner(now, key, fo, fr, context, spawner)?;
+        Ok(GetOrFetch { look, kind })
     }
 }
 
@@ -102,9 +101,10 @@ where
         ensures live { IfOk result (λ look. IfSome (entry_of look.look) (λ e. is_expired now (P.expiry_of e.kept.properties) ≡ false)) }
         ensures kind { IfOk result (λ look. look.kind ≡ self.now.kind) }
     {
-        Ok(GetOrFetch {
-            look: self.cache.get_or_fetch(now, key, fetch, spawner)?,
-            kind: self.kind,
-        })
+        let (look, kind) = (
+            self.cache.get_or_fetch(now, key, fetch, spawner)?,
+            self.kind,
+        );
+        Ok(GetOrFetch { look, kind })
     }
 }

@@ -1,16 +1,18 @@
-//! Inserts.
+//! Inserts, and inserts and removals that depend on what a key has.
 
-ghost use Rattle.std.specs.Prelude.{◌≡◌, IfOk, true};
+ghost use Rattle.std.specs.Prelude.{◌≡◌, IfOk, IfSome, false, true};
 ghost use Rattle.std.specs.Arc.{arc_value};
+ghost use Rattle.foyer_policy.specs.Moments.{is_expired};
 ghost use Rattle.foyer_core.specs.Rules.{Judges};
 ghost use Rattle.foyer_core.specs.State.{coming_in};
+ghost use Rattle.foyer_raw.specs.Conditional.{IfFound, IfInserted};
 ghost use Rattle.foyer_raw.specs.Lives.{living};
 
 use super::Cache;
 use crate::entry::CacheEntry;
 use foyer_core::{Filter, Finder, Piece, Weighter};
 use foyer_policy::{EventListener, HashBuilder, Key, Properties, Result, Value};
-use foyer_raw::{FetchTypes, Pipe};
+use foyer_raw::{FetchTypes, Pipe, Replaced};
 use std::sync::Wait;
 
 impl<H, K, V, S, P, W, A, L, Q, T, I> Cache<H, K, V, S, P, W, A, L, Q, T, I>
@@ -43,10 +45,8 @@ where
         ensures weight { IfOk result (λ e. W.weighs (arc_value (arc_value self.now.cache.shares.shared).shared).rules.weighter key value e.entry.kept.weight) }
         ensures kind { IfOk result (λ e. e.kind ≡ self.now.kind) }
     {
-        Ok(CacheEntry {
-            entry: self.cache.insert(now, key, value)?,
-            kind: self.kind,
-        })
+        let (entry, kind) = (self.cache.insert(now, key, value)?, self.kind);
+        Ok(CacheEntry { entry, kind })
     }
 
     /// Inserts a record and returns an entry of it.
@@ -74,12 +74,11 @@ where
             e.entry.kept.weight e.entry.kept.properties) }
         ensures kind { IfOk result (λ e. e.kind ≡ self.now.kind) }
     {
-        Ok(CacheEntry {
-            entry: self
-                .cache
-                .insert_with_properties(now, key, value, properties)?,
-            kind: self.kind,
-        })
+        let kind = self.kind;
+        let entry = self
+            .cache
+            .insert_with_properties(now, key, value, properties)?;
+        Ok(CacheEntry { entry, kind })
     }
 
     /// Inserts a value with default properties, as `put_with_properties` does.
@@ -117,9 +116,102 @@ where
         requires clones { (k c : K) → K.is_clone k c → K.eq c k ≡ true }
         ensures kind { IfOk result (λ e. e.kind ≡ self.now.kind) }
     {
-        Ok(CacheEntry {
-            entry: self.cache.insert_piece(now, piece)?,
-            kind: self.kind,
-        })
+        let (entry, kind) = (self.cache.insert_piece(now, piece)?, self.kind);
+        Ok(CacheEntry { entry, kind })
+    }
+
+    /// Inserts a record as `insert_with_properties` does, if the key still has the record of `seen`, expired or not, or, for
+    /// `None`, if a `get` at `now` finds none. If not, nothing is inserted, and the result is what a `get` at `now` finds: that
+    /// counts as a use, but not among hits and misses. All of it is one step, under one lock.
+    ///
+    /// So a value is changed by a `get` and a `replace_if`, again until it has `Inserted`. A key never has the record of another
+    /// key's entry, nor of another cache's, if the caches have different numbers (`with_number`).
+    ///
+    /// # Errors
+    /// Those of `insert_with_properties`, or of `get`.
+    pub fn replace_if(
+        &self,
+        now: u64,
+        seen: Option<&CacheEntry<H, K, V, S, P, W, A, L, Q, T, I>>,
+        key: K,
+        value: V,
+        properties: P,
+    ) -> Result<Replaced<CacheEntry<H, K, V, S, P, W, A, L, Q, T, I>>>
+        requires clones { (k c : K) → K.is_clone k c → K.eq c k ≡ true }
+        ensures entry { IfInserted result (λ e. (e.entry.kept.key ≡ key) × (e.entry.kept.value ≡ value)) }
+        ensures hash { IfInserted result (λ e. e.entry.kept.hash ≡ S.hash_of (arc_value (arc_value (arc_value self.now.cache.shares.shared).shared).hash_builder) (K.hash_input key)) }
+        ensures judged { let shared = arc_value (arc_value self.now.cache.shares.shared).shared in
+            IfInserted result (λ e. Judges (W.weighs shared.rules.weighter key value) (A.admits shared.rules.filter key value)
+            (λ admitted. coming_in P.location_of P.with_phantom_of admitted (living P.expiry_of P.with_expiry_of now self.now.cache.time_to_live properties))
+            e.entry.kept.weight e.entry.kept.properties) }
+        ensures key { IfFound result (λ e. K.eq key e.entry.kept.key ≡ true) }
+        ensures live { IfFound result (λ e. is_expired now (P.expiry_of e.entry.kept.properties) ≡ false) }
+        ensures kind { IfInserted result (λ e. e.kind ≡ self.now.kind) × IfFound result (λ e. e.kind ≡ self.now.kind) }
+    {
+        let kind = self.kind;
+        let seen = match seen {
+            Some(entry) => Some(&entry.entry),
+            None => None,
+        };
+        match self.cache.replace_if(now, seen, key, value, properties)? {
+            Replaced::Inserted(entry) => Ok(Replaced::Inserted(CacheEntry { entry, kind })),
+            Replaced::Changed(Some(entry)) => {
+                Ok(Replaced::Changed(Some(CacheEntry { entry, kind })))
+            }
+            Replaced::Changed(None) => Ok(Replaced::Changed(None)),
+        }
+    }
+
+    /// Inserts a record as `insert_with_properties` does, if its weight is at most its shard's capacity less what is pinned of
+    /// other keys there. If not, nothing is inserted or evicted, and the result is `None`.
+    ///
+    /// # Errors
+    /// Those of `insert_with_properties`.
+    pub fn insert_if_fits(
+        &self,
+        now: u64,
+        key: K,
+        value: V,
+        properties: P,
+    ) -> Result<Option<CacheEntry<H, K, V, S, P, W, A, L, Q, T, I>>>
+        requires clones { (k c : K) → K.is_clone k c → K.eq c k ≡ true }
+        ensures entry { IfOk result (λ made. IfSome made (λ e. (e.entry.kept.key ≡ key) × (e.entry.kept.value ≡ value))) }
+        ensures hash { IfOk result (λ made. IfSome made (λ e. e.entry.kept.hash ≡ S.hash_of (arc_value (arc_value (arc_value self.now.cache.shares.shared).shared).hash_builder) (K.hash_input key))) }
+        ensures judged { let shared = arc_value (arc_value self.now.cache.shares.shared).shared in
+            IfOk result (λ made. IfSome made (λ e. Judges (W.weighs shared.rules.weighter key value) (A.admits shared.rules.filter key value)
+            (λ admitted. coming_in P.location_of P.with_phantom_of admitted (living P.expiry_of P.with_expiry_of now self.now.cache.time_to_live properties))
+            e.entry.kept.weight e.entry.kept.properties)) }
+        ensures kind { IfOk result (λ made. IfSome made (λ e. e.kind ≡ self.now.kind)) }
+    {
+        let kind = self.kind;
+        match self.cache.insert_if_fits(now, key, value, properties)? {
+            Some(entry) => Ok(Some(CacheEntry { entry, kind })),
+            None => Ok(None),
+        }
+    }
+
+    /// Inserts the record that a `get` at `now` finds again as `put` does, with another expiry (`None`: never, whatever the time to
+    /// live) and a clone of its value, made under the shard's lock. Returns whether there is one. This counts as a use.
+    ///
+    /// The old record leaves as `Replace`, unless the insert evicts it. Weigher and filter aren't asked. All of it is one step, under
+    /// one lock.
+    ///
+    /// # Errors
+    /// F9 if the handle count would pass its limit; after the use those of `insert_with_properties`, F7 also if a clone fails.
+    pub fn set_expires(&self, now: u64, key: &K, expires: Option<u64>) -> Result<bool>
+    where
+        V: Clone,
+        P: Clone,
+        requires clones { (k c : K) → K.is_clone k c → K.eq c k ≡ true }
+    {
+        self.cache.set_expires(now, key, expires)
+    }
+
+    /// Removes the entry's record, expired or not, if its key still has it, and returns whether it had. The listener is told of
+    /// it as `Remove`. The entry stays held.
+    ///
+    /// A record of another cache isn't removed, if the caches have different numbers (`with_number`).
+    pub fn remove_this(&self, entry: &CacheEntry<H, K, V, S, P, W, A, L, Q, T, I>) -> bool {
+        self.cache.remove_this(&entry.entry)
     }
 }

@@ -15,11 +15,9 @@ use crate::rattle_std::sync::{Arc, Wait};
 
 mod blocking;
 mod bulk;
-mod conditional;
 mod fetching;
 mod insertion;
 mod keys;
-mod walks;
 
 /// An in-memory cache that threads share, with one of five eviction policies.
 pub struct Cache<
@@ -86,10 +84,8 @@ where
     /// F7 if a reference count is full.
     #[inline]
     pub fn try_clone(&self) -> Result<Self> {
-        Ok(Cache {
-            cache: self.cache.try_clone()?,
-            kind: self.kind,
-        })
+        let (cache, kind) = (self.cache.try_clone()?, self.kind);
+        Ok(Cache { cache, kind })
     }
 
     /// Returns the cache with this pipe, which its later entries, clones and tasks have too.

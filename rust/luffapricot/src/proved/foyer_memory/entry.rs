@@ -135,10 +135,8 @@ where
     /// F9 if the handle count would pass its limit, F7 if a reference count is full.
     #[inline]
     pub fn try_clone(&self) -> Result<Self> {
-        Ok(CacheEntry {
-            entry: self.entry.try_clone()?,
-            kind: self.kind,
-        })
+        let (entry, kind) = (self.entry.try_clone()?, self.kind);
+        Ok(CacheEntry { entry, kind })
     }
 
     /// Gives the handle back, as the entry's drop does.

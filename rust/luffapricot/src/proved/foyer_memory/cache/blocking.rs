@@ -43,10 +43,8 @@ where
     where
         F: FnOnce() -> crate::rattle_std::result::Result<V, Fault>,
     {
-        Ok(CacheEntry {
-            entry: self.cache.get_or_insert_with(now, key, make)?,
-            kind: self.kind,
-        })
+        let (entry, kind) = (self.cache.get_or_insert_with(now, key, make)?, self.kind);
+        Ok(CacheEntry { entry, kind })
     }
 
     /// Returns an entry of the key's record as `get_or_insert_with` does. The closure returns the properties too, such as
@@ -64,10 +62,11 @@ where
     where
         F: FnOnce() -> crate::rattle_std::result::Result<(V, P), Fault>,
     {
-        Ok(CacheEntry {
-            entry: self.cache.get_or_insert_with_properties(now, key, make)?,
-            kind: self.kind,
-        })
+        let (entry, kind) = (
+            self.cache.get_or_insert_with_properties(now, key, make)?,
+            self.kind,
+        );
+        Ok(CacheEntry { entry, kind })
     }
 }
 
@@ -100,9 +99,7 @@ where
         key: &K,
         fetch: R,
     ) -> Result<CacheEntry<H, K, V, S, P, W, A, L, Q, Direct<R>, I>> {
-        Ok(CacheEntry {
-            entry: self.cache.get_or_fetch_blocking(now, key, fetch)?,
-            kind: self.kind,
-        })
+        let (entry, kind) = (self.cache.get_or_fetch_blocking(now, key, fetch)?, self.kind);
+        Ok(CacheEntry { entry, kind })
     }
 }

@@ -88,4 +88,33 @@ where
     pub fn flush_if<F: Fn(&K, &V) -> bool>(&self, predicate: F) -> FlushIf<Q::Flush> {
         self.cache.flush_if(predicate)
     }
+
+    /// Calls a closure with each record, expired or not: shard by shard, in the policy's order. The records of a shard are
+    /// those that it had at one moment. No lock is held during a call, so the closure may use the cache. It counts as no use.
+    ///
+    /// # Errors
+    /// F7 if memory runs out; the shards before have been visited.
+    #[inline]
+    pub fn for_each<F: FnMut(&K, &V)>(&self, visit: F) -> Result<()> {
+        self.cache.for_each(visit)
+    }
+
+    /// Returns a clone of each record's key, expired or not, in the order of `for_each`.
+    ///
+    /// # Errors
+    /// F7 if memory runs out.
+    #[inline]
+    pub fn keys(&self) -> Result<Vec<K>> {
+        self.cache.keys()
+    }
+
+    /// Removes each record for which a closure returns false, as `Remove`, and tells the listener. The closure sees each record,
+    /// expired or not, in the order of `for_each`, and may use the cache. A record that was replaced meanwhile stays.
+    ///
+    /// # Errors
+    /// F7 if memory runs out; the shards before are done.
+    #[inline]
+    pub fn retain<F: FnMut(&K, &V) -> bool>(&self, keep: F) -> Result<()> {
+        self.cache.retain(keep)
+    }
 }

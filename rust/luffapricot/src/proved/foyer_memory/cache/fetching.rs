@@ -50,12 +50,11 @@ where
         F: FnOnce() -> Option<T::Required>,
         X: Spawner<FetchTask<H, K, V, S, P, W, A, L, Q, T, I>>,
     {
-        Ok(GetOrFetch {
-            look: self
-                .cache
-                .get_or_fetch_inner(now, key, fo, fr, context, spawner)?,
-            kind: self.kind,
-        })
+        let kind = self.kind;
+        let look = self
+            .cache
+            .get_or_fetch_inner(now, key, fo, fr, context, spawner)?;
+        Ok(GetOrFetch { look, kind })
     }
 }
 
@@ -91,9 +90,7 @@ where
         F: FnOnce() -> R,
         X: Spawner<FetchTask<H, K, V, S, P, W, A, L, Q, Direct<R>, I>>,
     {
-        Ok(GetOrFetch {
-            look: self.cache.get_or_fetch(now, key, fetch, spawner)?,
-            kind: self.kind,
-        })
+        let (look, kind) = (self.cache.get_or_fetch(now, key, fetch, spawner)?, self.kind);
+        Ok(GetOrFetch { look, kind })
     }
 }
