@@ -1,6 +1,6 @@
 -- A record that the index has, whose entry is given back at once.
 use Rattle.std.proofs.Common.{◌≡◌, ◌≢◌, ◌+◌, ◌⊎◌, ℕ, Bool, true, false, cond, inl, inr, Option, Some, None, List, [], ◌++◌, refl, sym, ap, ◌∙◌, subst, arith}
-use Rattle.std.specs.Prelude.{Result, Ok, Err, IfOk, MatchResult, OnErr, ◌==◌, ◌&&◌, not, drop, length}
+use Rattle.std.specs.Prelude.{Result, Ok, Err, IfOk, MatchResult, OnErr, ◌==◌, ◌&&◌, not}
 use Rattle.std.specs.Cmp.{IsEquivalence}
 use Rattle.std.proofs.lemmas.Map.{update_here}
 use Rattle.foyer_policy.specs.Policy.{IsPolicy}
@@ -9,7 +9,6 @@ use Rattle.foyer_policy.specs.declared.types.Event.TheVariants.{Evict}
 use Rattle.foyer_policy.specs.declared.types.Source.TheVariants.{Outer}
 use Rattle.foyer_policy.specs.declared.error.Reason.{Reason}
 use Rattle.foyer_policy.specs.Properties.{is_phantom}
-use Rattle.foyer_core.specs.Bulk.{GoesOn}
 use Rattle.foyer_core.specs.Inflight.{Opens, closed, waiters_of}
 use Rattle.foyer_core.specs.NoEntry.{PutsAnswering, last_of}
 use Rattle.foyer_core.specs.State.{Meaning, State, IsKept, handles_in, handles_of, is_phantom_record, key_of}
@@ -25,6 +24,8 @@ use Rattle.foyer_core.proofs.Hits.{hit_index}
 use Rattle.foyer_core.proofs.ShardTold.{stands}
 use Rattle.foyer_raw.specs.Conditional.{PutsAgain, Uses}
 use Rattle.foyer_raw.specs.Counts.{leaves_counted, put_counted}
+use Rattle.foyer_raw.specs.Told.{IsUntold, told_of}
+use Rattle.foyer_raw.specs.declared.leaves.Leaves.{Leaves}
 
 same_rec : {K V P : Type 0} (a b : Rec K V P) → Some a ≡ Some b → a ≡ b
 same_rec a b h = cc
@@ -76,17 +77,9 @@ module _ {K V P View C : Type 0} (m : Meaning K P View C) (laws : IsEquivalence 
       omega (arith, is)
       )
 
-module _ {K V P : Type 0} where
-  -- what goes on from nothing
-  pub from_nothing : (old new : List (Event × Gone K V P)) (So : List (Event × Gone K V P) → Type 0) → old ≡ [] →
-      GoesOn old new So → So new
-  from_nothing old new So none went =
-      subst So (sym (went.told ∙ ap (λ (l : List (Event × Gone K V P)). l ++ went.more) none)) went.so
-
-  -- behind nothing
-  pub behind_nothing : (old new : List (Event × Gone K V P)) (n : ℕ) → old ≡ [] → n ≡ length old → drop n new ≡ new
-  behind_nothing old new n none len =
-      ap (λ (a : ℕ). drop a new) (len ∙ ap (λ (l : List (Event × Gone K V P)). length l) none)
+-- nothing was told
+pub nothing_told : {K V P : Type 0} (l : Leaves K V P) → IsUntold l → told_of l ≡ []
+nothing_told l none = cc
 
 module _ {K V P View C N R : Type 0} (m : Meaning K P View C) (now : ℕ) (is_again : Data K V P → Data K V P → Type 0)
     (k : ℕ × K) (put : Result (PutOnto K V P N) Reason) (ls : List (Event × Gone K V P))

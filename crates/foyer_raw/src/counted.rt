@@ -13,12 +13,10 @@ use std::alloc::Global;
 mod bulk;
 mod conditional;
 mod counts;
-mod entries;
 mod fetches;
 mod insertion;
 mod keys;
 mod passed;
-mod pieces;
 
 pub use conditional::RawReplaced;
 pub use fetches::{Later, RawEnded};

@@ -3,15 +3,14 @@
 ghost use Rattle.std.specs.Prelude.{◌≡◌, ◌<◌, IfErr, IfOk, vec_len};
 ghost use Rattle.foyer_policy.specs.declared.error.Reason.TheVariants.{NoMemory};
 
-use crate::counted::{Capacity, CountedShard, Hashed, RawShard};
+use crate::counted::{Capacity, CountedShard, RawShard};
 use foyer_core::{Finder, shard_of};
-use foyer_policy::{Event, EventListener, Eviction, Key, Properties, Result, Value};
+use foyer_policy::{Error, Event, EventListener, Eviction, Key, Properties, Result, Value};
 use std::alloc::Global;
 use std::hint::spin_loop;
 use std::sync::{Mutex, MutexGuard, Wait};
 
 mod bulk;
-mod calls;
 
 // How often a thread looks whether a lock is free, before it sleeps.
 const LOOKS: u32 = 100;
@@ -110,10 +109,11 @@ where
         }
     }
 
-    // The shard of a key, locked.
-    #[inline(always)]
-    fn of(&self, key: &Hashed<'_, K>) -> MutexGuard<'_, CountedShard<E, K, V, P, R, I>> {
-        self.lock(key.hash())
+    // Refuses an insert for which memory ran out.
+    #[cold]
+    #[inline(never)]
+    pub(crate) fn refuse_insert(&self, hash: u64, key: &K, properties: &P, weight: usize) -> Error {
+        self.lock(hash).refuse_insert(hash, key, properties, weight)
     }
 
     // A shard whose lock was held, locked. A step of a shard is short, and mostly ends before a thread would be asleep: so

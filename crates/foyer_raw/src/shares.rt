@@ -3,7 +3,7 @@
 ghost use Rattle.std.specs.Prelude.{◌≡◌, IfOk, IfSome};
 ghost use Rattle.std.specs.Arc.{arc_value};
 
-use crate::counted::RawEnded;
+use crate::counted::{CountedShard, Hashed, RawEnded};
 use crate::entry::RawCacheEntry;
 use crate::flush::Flush;
 use crate::leaves::Leaves;
@@ -13,7 +13,7 @@ use crate::stripes::Stripe;
 use crate::ticket::{Answer, Notifier, Ticket, Waiters, refuse};
 use foyer_core::{Answers, CoreEntry, Ended, Finder, Leave, Left, Piece};
 use foyer_policy::{EventListener, Eviction, Key, Properties, Result, Value};
-use std::sync::{Arc, Wait};
+use std::sync::{Arc, MutexGuard, Wait};
 
 mod ending;
 
@@ -89,6 +89,18 @@ where
     Q: Pipe<Key = K, Value = V, Properties = P>,
     R: Drop,
 {
+    // The shard of a hash, locked.
+    #[inline(always)]
+    pub(crate) fn lock(&self, hash: u64) -> MutexGuard<'_, CountedShard<E, K, V, P, R, I>> {
+        self.shared.shards.lock(hash)
+    }
+
+    // The shard of a key, locked.
+    #[inline(always)]
+    pub(crate) fn of(&self, key: &Hashed<'_, K>) -> MutexGuard<'_, CountedShard<E, K, V, P, R, I>> {
+        self.lock(key.hash())
+    }
+
     // The entry of a handle.
     #[inline(always)]
     pub(crate) fn entry(
@@ -130,10 +142,13 @@ where
         self.tell_all(more);
     }
 
-    // Takes a handle back under its shard's lock, and then tells what left with it.
+    // Takes a handle back under its shard's lock, and then tells what left with it. A handle that the shard doesn't know is
+    // discarded.
     #[inline(always)]
     pub(crate) fn give_back(&self, core: CoreEntry<K, V, P>) {
-        if let Some(leave) = self.shared.shards.give_back(core) {
+        let taken = self.lock(core.hash()).take_back(&core);
+        core.discard();
+        if let Ok(Some(leave)) = taken {
             self.tell(leave);
         }
     }

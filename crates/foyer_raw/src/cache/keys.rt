@@ -66,7 +66,8 @@ where
     {
         let key = self.hashed(key);
         let hash = key.hash();
-        self.entry_found(hash, self.shares.shared.shards.get(At::new(now), key))
+        let found = self.shares.of(&key).get(At::new(now), key);
+        self.entry_found(hash, found)
     }
 
     /// Calls `look` with the value that a `get` at `now` would find, counts a use of its record, and returns what `look`
@@ -82,7 +83,7 @@ where
         ensures { IfOk result (λ found. IfSome found (SeesLive K.eq P.expiry_of now key.now (FnOnceReturnsAt F.FnOnce look))) }
     {
         let key = self.hashed(key);
-        self.shares.shared.shards.read(At::new(now), key, look)
+        self.shares.of(&key).read(At::new(now), key, look)
     }
 
     /// Calls `look` as `read` does, and counts no use. A `peek` isn't counted among hits and misses either.
@@ -92,7 +93,7 @@ where
         ensures { IfSome result (SeesLive K.eq P.expiry_of now key.now (FnOnceReturnsAt F.FnOnce look)) }
     {
         let key = self.hashed(key);
-        self.shares.shared.shards.peek(At::new(now), key, look)
+        self.shares.of(&key).peek(At::new(now), key, look)
     }
 
     /// Returns a copy of the value that a `get` at `now` would find. This counts as a use, as `read` does.
@@ -136,7 +137,8 @@ where
         ensures live { IfOk result (λ found. IfSome found (λ e. is_expired now.0 (P.expiry_of e.kept.properties) ≡ false)) }
     {
         let hash = key.hash();
-        self.entry_found(hash, self.shares.shared.shards.get_first(now, key))
+        let found = self.shares.of(&key).get_first(now, key);
+        self.entry_found(hash, found)
     }
 
     // The entry of what was found of a key with this hash. The handle is given back if the cache can't be shared once more (F7).
@@ -174,7 +176,8 @@ where
     {
         let key = self.hashed(key);
         let shares = self.shares_for(key.again())?;
-        match self.shares.shared.shards.remove(key)? {
+        let taken = self.shares.of(&key).remove(key)?;
+        match taken {
             Some((core, left)) => {
                 self.shares.tell((Event::Remove, left));
                 Ok(Some(shares.entry(core)))
@@ -189,7 +192,9 @@ where
     /// # Errors
     /// F9 if the handle count would pass its limit.
     pub fn delete(&self, key: &K) -> Result<bool> {
-        match self.shares.shared.shards.delete(self.hashed(key))? {
+        let key = self.hashed(key);
+        let taken = self.shares.of(&key).delete(key)?;
+        match taken {
             Some(left) => {
                 self.shares.tell((Event::Remove, left));
                 Ok(true)
@@ -207,7 +212,8 @@ where
             Ok(shares) => return Ok(shares),
             Err(refused) => refused,
         };
-        match self.shares.shared.shards.refuses_get(key) {
+        let reason = self.shares.of(&key).refuses_get(key);
+        match reason {
             Some(reason) => Err(Error::new(reason)),
             None => Err(refused),
         }
@@ -219,12 +225,12 @@ where
     /// F9 if the handle count would pass its limit.
     pub fn touch(&self, now: u64, key: &K) -> Result<bool> {
         let key = self.hashed(key);
-        self.shares.shared.shards.touch(At::new(now), key)
+        self.shares.of(&key).touch(At::new(now), key)
     }
 
     /// Returns whether a `get` at `now` finds the key. It counts no use, and takes no memory.
     pub fn contains(&self, now: u64, key: &K) -> bool {
         let key = self.hashed(key);
-        self.shares.shared.shards.contains(At::new(now), key)
+        self.shares.of(&key).contains(At::new(now), key)
     }
 }

@@ -13,12 +13,11 @@ ghost use Rattle.foyer_raw.specs.Conditional.{IfChanged, IfFitting, IfFound, IfI
 ghost use Rattle.foyer_raw.specs.Counts.{leaves_counted, made_counted};
 ghost use Rattle.foyer_raw.specs.Told.{IsOf, IsUntold, taken_out, told_of};
 
-use super::counts::{count_leaves, count_made};
 use super::{At, CountedShard, FIRST, Hashed, RawInserted, RawPut};
 use crate::leaves::Leaves;
 use crate::replaced::Replaced;
-use foyer_core::{CoreEntry, Counted, Data, Finder, Hold, Leave, Left, Share};
-use foyer_policy::{Error, Event, Eviction, Key, Properties, Reason, Result, Source, Value};
+use foyer_core::{CoreEntry, Counted, Data, Finder, Hold, Left, Share};
+use foyer_policy::{Error, Event, Eviction, Key, Properties, Reason, Result, Value};
 use std::alloc::Global;
 
 /// What a conditional insert returns that has not failed.
@@ -71,7 +70,7 @@ impl<E: Eviction, K: Key, V: Value, P: Properties, R: Drop, I: Finder<K>> Counte
             let found = self.shard.get(now.0, kept.hash(), kept.key())?;
             return Ok(Replaced::Changed(found));
         }
-        Ok(Replaced::Inserted(self.emplace_leaving(alloc, now, kept, leaves)?))
+        Ok(Replaced::Inserted(self.emplace(alloc, now, kept, leaves)?))
     }
 
     // Whether the key of these data still has what was seen.
@@ -120,36 +119,7 @@ impl<E: Eviction, K: Key, V: Value, P: Properties, R: Drop, I: Finder<K>> Counte
         if !self.shard.would_fit(kept.hash(), kept.key(), kept.weight()) {
             return Ok(None);
         }
-        Ok(Some(self.emplace_leaving(alloc, now, kept, leaves)?))
-    }
-
-    // Inserts a record at a time with this share of its data, also while fetches are open.
-    fn emplace_leaving(
-        &mut self,
-        alloc: Global,
-        now: At,
-        kept: Share<K, V, P>,
-        leaves: &mut Leaves<K, V, P>,
-    ) -> Result<RawInserted<K, V, P>>
-        requires clones { (k c : K) → K.is_clone k c → K.eq c k ≡ true }
-        requires untold { IsUntold leaves.old }
-        ensures inserted { InsertsOnto (meaning_of self.old.shard) now.0 (state_of self.old.shard) kept
-            (1 + waiting_for (opens_of self.old.shard) (key_of kept)) result (told_of leaves.new) (state_of self.new.shard) }
-        ensures answered { MatchResult result
-            (λ m. AnswersEach (waiters_of ((opens_of self.old.shard).by_key (key_of kept))) m.entry m.answers
-            × (opens_of self.new.shard ≡ closed K.eq (opens_of self.old.shard) (key_of kept)))
-            (λ _. opens_of self.new.shard ≡ opens_of self.old.shard) }
-        ensures counts { self.new.stats ≡ leaves_counted P.phantom_of P.expiry_of now.0 (told_of leaves.new)
-            (made_counted P.phantom_of result self.old.stats) }
-        ensures given { IfOk result (λ made. made.entry.kept ≡ kept) }
-    {
-        let made = self
-            .shard
-            .emplace_share(alloc, now.0, kept, Source::Outer, &mut self.left);
-        count_made(&mut self.stats, &made);
-        count_leaves(&mut self.stats, now.0, self.left.as_slice());
-        leaves.take(&mut self.left);
-        made
+        Ok(Some(self.emplace(alloc, now, kept, leaves)?))
     }
 
     /// Removes an entry's record, expired or not, if its key still has it, and returns it as it left (`Remove`).
@@ -184,15 +154,15 @@ impl<E: Eviction, K: Key, V: Value, P: Properties, R: Drop, I: Finder<K>> Counte
         now: At,
         key: Hashed<'_, K>,
         expires: Option<u64>,
-        leaves: &mut Vec<Leave<K, V, P>>,
+        leaves: &mut Leaves<K, V, P>,
     ) -> Result<Option<RawPut<K, V, P>>>
     where
         V: Clone,
         P: Clone,
         requires clones { (k c : K) → K.is_clone k c → K.eq c k ≡ true }
-        requires untold { leaves.old.items ≡ [] }
+        requires untold { IsUntold leaves.old }
         ensures { SetsExpiry (meaning_of self.old.shard) now.0 (IsAgain K.is_clone V.is_clone P.is_clone P.with_expiry_of expires) key.entry result
-            leaves.new.items (state_of self.old.shard) (state_of self.new.shard)
+            (told_of leaves.new) (state_of self.old.shard) (state_of self.new.shard)
             (opens_of self.old.shard) (opens_of self.new.shard) self.old.stats self.new.stats }
     {
         let Some(entry) = self.shard.get(now.0, key.hash, key.key)? else {

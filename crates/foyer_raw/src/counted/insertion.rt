@@ -1,10 +1,9 @@
 //! Inserts.
 
-ghost use Rattle.std.specs.Prelude.{◌≡◌, ◌≢◌, ◌+◌, ℕ, [], Err, IfNone, IfOk, IfSome, MatchResult, None, OnErr, drop, true, vec_len};
+ghost use Rattle.std.specs.Prelude.{◌≡◌, ◌≢◌, ◌+◌, ℕ, [], Err, IfNone, IfOk, IfSome, MatchResult, None, OnErr, true};
 ghost use Rattle.foyer_policy.specs.Properties.{is_phantom};
 ghost use Rattle.foyer_policy.specs.declared.error.Reason.TheVariants.{Handles, NoMemory};
 ghost use Rattle.foyer_policy.specs.declared.types.Source.TheVariants.{Outer};
-ghost use Rattle.foyer_core.specs.Bulk.{GoesOn};
 ghost use Rattle.foyer_core.specs.Inflight.{closed, waiters_of};
 ghost use Rattle.foyer_core.specs.Looks.{whole};
 ghost use Rattle.foyer_core.specs.NoEntry.{Puts, PutsAnswering, last_of};
@@ -15,6 +14,7 @@ ghost use Rattle.foyer_core.specs.Stats.{counted};
 ghost use Rattle.foyer_core.specs.Steps.{Gets, GivesBack, Inserts, MayBy, RefusesInsert, entry_of, newcomer};
 ghost use Rattle.foyer_core.specs.Waited.{AnswersEach, waiting_for};
 ghost use Rattle.foyer_core.specs.declared.stats.Counted.TheVariants.{Refused};
+ghost use Rattle.foyer_raw.specs.Conditional.{InsertsOnto};
 ghost use Rattle.foyer_raw.specs.Counts.{leaves_counted, made_counted, put_counted};
 ghost use Rattle.foyer_raw.specs.Told.{IsUntold, told_of};
 
@@ -113,65 +113,64 @@ impl<E: Eviction, K: Key, V: Value, P: Properties, R: Drop, I: Finder<K>> Counte
         put
     }
 
-    /// Inserts a record at a time with this share of its data, also while fetches are open, and appends what leaves.
+    /// Inserts a record at a time with this share of its data, also while fetches are open.
     pub fn emplace(
         &mut self,
         alloc: Global,
         now: At,
         kept: Share<K, V, P>,
-        leaves: &mut Vec<Leave<K, V, P>>,
+        leaves: &mut Leaves<K, V, P>,
     ) -> Result<RawInserted<K, V, P>>
         requires clones { (k c : K) → K.is_clone k c → K.eq c k ≡ true }
-        ensures inserted { let handles = 1 + waiting_for (opens_of self.old.shard) (key_of kept) in GoesOn leaves.old.items leaves.new.items (λ ls. MatchResult result
-            (λ made. Inserts (at_moment now.0 (meaning_of self.old.shard)) Outer (state_of self.old.shard)
-            (newcomer (state_of self.old.shard) kept handles) ls made.entry (state_of self.new.shard))
-            (λ error. RefusesInsert (at_moment now.0 (meaning_of self.old.shard)) (state_of self.old.shard)
-            (newcomer (state_of self.old.shard) kept handles) error ls (state_of self.new.shard))) }
-        ensures given { IfOk result (λ made. made.entry.kept ≡ kept) }
-        ensures answers { IfOk result (λ made. AnswersEach (waiters_of ((opens_of self.old.shard).by_key (key_of made.entry.kept))) made.entry made.answers) }
-        ensures opens { MatchResult result (λ made. opens_of self.new.shard ≡ closed K.eq (opens_of self.old.shard) (key_of made.entry.kept))
+        requires untold { IsUntold leaves.old }
+        ensures inserted { InsertsOnto (meaning_of self.old.shard) now.0 (state_of self.old.shard) kept
+            (1 + waiting_for (opens_of self.old.shard) (key_of kept)) result (told_of leaves.new) (state_of self.new.shard) }
+        ensures answered { MatchResult result
+            (λ m. AnswersEach (waiters_of ((opens_of self.old.shard).by_key (key_of kept))) m.entry m.answers
+            × (opens_of self.new.shard ≡ closed K.eq (opens_of self.old.shard) (key_of kept)))
             (λ _. opens_of self.new.shard ≡ opens_of self.old.shard) }
-        ensures counts { self.new.stats ≡ leaves_counted P.phantom_of P.expiry_of now.0 (drop (vec_len leaves.old) leaves.new.items)
+        ensures counts { self.new.stats ≡ leaves_counted P.phantom_of P.expiry_of now.0 (told_of leaves.new)
             (made_counted P.phantom_of result self.old.stats) }
+        ensures given { IfOk result (λ made. made.entry.kept ≡ kept) }
     {
-        let told = leaves.len();
         let made = self
             .shard
-            .emplace_share(alloc, now.0, kept, Source::Outer, leaves);
+            .emplace_share(alloc, now.0, kept, Source::Outer, &mut self.left);
         count_made(&mut self.stats, &made);
-        count_leaves(&mut self.stats, now.0, &leaves[told..]);
+        count_leaves(&mut self.stats, now.0, self.left.as_slice());
+        leaves.take(&mut self.left);
         made
     }
 
-    /// Inserts a record as `put` does, also while fetches are open, and appends what leaves.
+    /// Inserts a record as `put` does, also while fetches are open.
     pub fn put_answering(
         &mut self,
         alloc: Global,
         now: At,
         kept: Share<K, V, P>,
-        leaves: &mut Vec<Leave<K, V, P>>,
+        leaves: &mut Leaves<K, V, P>,
     ) -> Result<RawPut<K, V, P>>
         requires clones { (k c : K) → K.is_clone k c → K.eq c k ≡ true }
-        ensures puts { let handles = 1 + waiting_for (opens_of self.old.shard) (key_of kept) in GoesOn leaves.old.items leaves.new.items (λ ls.
-            PutsAnswering (meaning_of self.old.shard) now.0 (state_of self.old.shard) (newcomer (state_of self.old.shard) kept handles)
-            (last_of result) ls (state_of self.new.shard)) }
+        requires untold { IsUntold leaves.old }
+        ensures puts { PutsAnswering (meaning_of self.old.shard) now.0 (state_of self.old.shard) (newcomer (state_of self.old.shard) kept
+            (1 + waiting_for (opens_of self.old.shard) (key_of kept))) (last_of result) (told_of leaves.new) (state_of self.new.shard) }
         ensures answers { let s = state_of self.old.shard in IfOk result (λ put. AnswersEach (waiters_of ((opens_of self.old.shard).by_key (key_of kept)))
             (entry_of s s.next kept Outer) put.answers) }
         ensures opens { MatchResult result (λ _. opens_of self.new.shard ≡ closed K.eq (opens_of self.old.shard) (key_of kept))
             (λ _. opens_of self.new.shard ≡ opens_of self.old.shard) }
-        ensures counts { self.new.stats ≡ leaves_counted P.phantom_of P.expiry_of now.0 (drop (vec_len leaves.old) leaves.new.items)
+        ensures counts { self.new.stats ≡ leaves_counted P.phantom_of P.expiry_of now.0 (told_of leaves.new)
             (put_counted (is_phantom (P.phantom_of kept.properties)) result self.old.stats) }
     {
-        let told = leaves.len();
         let phantom = is_phantom(kept.properties());
-        let put = self.shard.put_share(alloc, now.0, kept, leaves);
+        let put = self.shard.put_share(alloc, now.0, kept, &mut self.left);
         count_put(&mut self.stats, &put, phantom);
-        count_leaves(&mut self.stats, now.0, &leaves[told..]);
+        count_leaves(&mut self.stats, now.0, self.left.as_slice());
+        leaves.take(&mut self.left);
         put
     }
 
-    /// Inserts a piece's record at a time, and appends what leaves. The piece's key has this hash, and the record has this
-    /// weight if the shard doesn't know the piece.
+    /// Inserts a piece's record at a time. The piece's key has this hash, and the record has this weight if the shard doesn't
+    /// know the piece.
     pub fn emplace_piece(
         &mut self,
         alloc: Global,
@@ -179,24 +178,25 @@ impl<E: Eviction, K: Key, V: Value, P: Properties, R: Drop, I: Finder<K>> Counte
         piece: Piece<K, V, P>,
         hash: u64,
         weight: usize,
-        leaves: &mut Vec<Leave<K, V, P>>,
+        leaves: &mut Leaves<K, V, P>,
     ) -> Result<RawInserted<K, V, P>>
         requires clones { (k c : K) → K.is_clone k c → K.eq c k ≡ true }
-        ensures inserted { GoesOn leaves.old.items leaves.new.items (λ ls. InsertsPiece (at_moment now.0 (meaning_of self.old.shard)) (λ w. w ≡ weight) hash piece
+        requires untold { IsUntold leaves.old }
+        ensures inserted { InsertsPiece (at_moment now.0 (meaning_of self.old.shard)) (λ w. w ≡ weight) hash piece
             (1 + waiting_for (opens_of self.old.shard) (coming_under (state_of self.old.shard) hash piece))
-            (insertion_onto result ls) (state_of self.old.shard) (state_of self.new.shard)) }
+            (insertion_onto result (told_of leaves.new)) (state_of self.old.shard) (state_of self.new.shard) }
         ensures answers { IfOk result (λ made. AnswersEach (waiters_of ((opens_of self.old.shard).by_key (key_of made.entry.kept))) made.entry made.answers) }
         ensures opens { MatchResult result (λ made. opens_of self.new.shard ≡ closed K.eq (opens_of self.old.shard) (key_of made.entry.kept))
             (λ _. opens_of self.new.shard ≡ opens_of self.old.shard) }
-        ensures counts { self.new.stats ≡ leaves_counted P.phantom_of P.expiry_of now.0 (drop (vec_len leaves.old) leaves.new.items)
+        ensures counts { self.new.stats ≡ leaves_counted P.phantom_of P.expiry_of now.0 (told_of leaves.new)
             (made_counted P.phantom_of result self.old.stats) }
     {
-        let told = leaves.len();
         let made = self
             .shard
-            .emplace_piece(alloc, now.0, piece, hash, weight, leaves);
+            .emplace_piece(alloc, now.0, piece, hash, weight, &mut self.left);
         count_made(&mut self.stats, &made);
-        count_leaves(&mut self.stats, now.0, &leaves[told..]);
+        count_leaves(&mut self.stats, now.0, self.left.as_slice());
+        leaves.take(&mut self.left);
         made
     }
 

@@ -1,21 +1,24 @@
-//! Calls on a key.
+//! Calls on a key, an entry or a piece.
 
-ghost use Rattle.std.specs.Prelude.{◌≡◌, ◌≢◌, Err, IfNone, IfOk, IfSome, OnErr, false, is_some, true};
+ghost use Rattle.std.specs.Prelude.{◌≡◌, ◌≢◌, ◌↔◌, ◌⊎◌, Err, IfErr, IfNone, IfOk, IfSome, IsTrue, OnErr, false, is_some, true};
 ghost use Rattle.std.specs.Fn.{FnOnceReturnsAt};
 ghost use Rattle.foyer_policy.specs.Moments.{is_expired};
-ghost use Rattle.foyer_policy.specs.declared.error.Reason.TheVariants.{Handles};
+ghost use Rattle.foyer_policy.specs.declared.error.Reason.TheVariants.{Handles, NoMemory};
+ghost use Rattle.foyer_core.specs.Bulk.{TakesRecordOut};
 ghost use Rattle.foyer_core.specs.Looks.{IfHit, look_of, look_whole};
 ghost use Rattle.foyer_core.specs.NoEntry.{Deletes, Peeks, Reads, SeesLive, is_found};
 ghost use Rattle.foyer_core.specs.Questions.{MayGet};
-ghost use Rattle.foyer_core.specs.State.{hit};
-ghost use Rattle.foyer_core.specs.Steps.{Gets, Removes, Touches};
+ghost use Rattle.foyer_core.specs.ResidentPieces.{ArePieces, is_resident};
+ghost use Rattle.foyer_core.specs.State.{handles_in, hit};
+ghost use Rattle.foyer_core.specs.Steps.{ClonesHandle, Gets, GivesBack, IsOutdated, Removes, Touches};
 ghost use Rattle.foyer_raw.specs.Counts.{first_look_counted, leaves_counted, look_up_counted};
-ghost use Rattle.foyer_raw.specs.Told.{deleted, removed};
+ghost use Rattle.foyer_raw.specs.Told.{IsOf, deleted, removed, taken_out};
 
 use super::counts::{count_deleted, count_first_look, count_look_up, count_removed, count_touch};
 use super::{At, CountedShard, FIRST, Hashed};
-use foyer_core::{CoreEntry, Counted, Finder, Got, Left};
-use foyer_policy::{Eviction, Key, Properties, Reason, Result, Value};
+use foyer_core::{CoreEntry, Counted, Finder, Foreign, Got, Leave, Left, Piece};
+use foyer_policy::{Error, Event, Eviction, Key, Properties, Reason, Result, Value};
+use std::alloc::Global;
 
 impl<E: Eviction, K: Key, V: Value, P: Properties, R: Drop, I: Finder<K>> CountedShard<
     E,
@@ -152,5 +155,86 @@ impl<E: Eviction, K: Key, V: Value, P: Properties, R: Drop, I: Finder<K>> Counte
         ensures none { IfNone result (MayGet (meaning_of self.now.shard) FIRST (state_of self.now.shard) key.entry) }
     {
         self.shard.refuses_get(FIRST, key.hash, key.key)
+    }
+
+    /// Takes an entry's handle back and returns what left with it. Then the entry must be discarded.
+    #[inline(always)]
+    pub fn take_back(
+        &mut self,
+        entry: &CoreEntry<K, V, P>,
+    ) -> std::result::Result<Option<Leave<K, V, P>>, Foreign>
+        ensures taken { IfOk result (λ leave. (entry.now.number ≡ (state_of self.old.shard).number)
+            × GivesBack (meaning_of self.old.shard) (state_of self.old.shard) entry.now.id leave (state_of self.new.shard)) }
+        ensures foreign { OnErr result ((entry.now.number ≢ (state_of self.old.shard).number) ⊎ (handles_in (state_of self.old.shard) entry.now.id ≡ 0)) }
+        ensures err { OnErr result (state_of self.new.shard ≡ state_of self.old.shard) }
+        ensures opens { opens_of self.new.shard ≡ opens_of self.old.shard }
+        ensures counts { self.new.stats ≡ self.old.stats }
+    {
+        self.shard.take_back(entry)
+    }
+
+    /// Returns one more entry of the same record. It counts as a handle and not as a use.
+    ///
+    /// # Errors
+    /// F9 if the handle count would pass its limit, F7 if a reference count is full or the shard doesn't know the entry;
+    /// nothing has changed.
+    pub fn clone_handle(&mut self, entry: &CoreEntry<K, V, P>) -> Result<CoreEntry<K, V, P>>
+        ensures clones { IsOf (state_of self.old.shard) entry.now → ClonesHandle (state_of self.old.shard) entry.now result (state_of self.new.shard) }
+        ensures foreign { ¬ IsOf (state_of self.old.shard) entry.now → (result ≡ Err NoMemory) × (state_of self.new.shard ≡ state_of self.old.shard) }
+        ensures kept { IfOk result (λ clone. clone.kept ≡ entry.now.kept) }
+        ensures opens { opens_of self.new.shard ≡ opens_of self.old.shard }
+        ensures counts { self.new.stats ≡ self.old.stats }
+    {
+        if !self.shard.owns(entry) {
+            return Err(Error::new(Reason::NoMemory));
+        }
+        self.shard.clone_handle(entry)
+    }
+
+    /// Returns how many handles the entry's record has: 0 if the shard doesn't know the entry.
+    pub fn refs(&self, entry: &CoreEntry<K, V, P>) -> usize
+        ensures refs { IsOf (state_of self.now.shard) entry.now → result ≡ handles_in (state_of self.now.shard) entry.now.id }
+        ensures foreign { ¬ IsOf (state_of self.now.shard) entry.now → result ≡ 0 }
+    {
+        if !self.shard.owns(entry) {
+            return 0;
+        }
+        self.shard.refs(entry)
+    }
+
+    /// Returns whether the entry's record is no longer resident, or the shard doesn't know the entry.
+    pub fn is_outdated(&self, entry: &CoreEntry<K, V, P>) -> bool
+        ensures known { IsOf (state_of self.now.shard) entry.now → (IsTrue result ↔ IsOutdated (state_of self.now.shard) entry.now.id) }
+        ensures foreign { ¬ IsOf (state_of self.now.shard) entry.now → result ≡ true }
+    {
+        if !self.shard.owns(entry) {
+            return true;
+        }
+        self.shard.is_outdated(entry)
+    }
+
+    /// Returns a piece of each resident record, expired or not, in the policy's order.
+    ///
+    /// # Errors
+    /// F7 if memory runs out.
+    pub fn pieces(&self, alloc: Global) -> Result<Vec<Piece<K, V, P>>>
+        ensures pieces { IfOk result (λ pieces. ArePieces (meaning_of self.now.shard) (state_of self.now.shard) pieces.items) }
+        ensures memory { IfErr result (λ e. e ≡ NoMemory) }
+    {
+        self.shard.pieces(alloc)
+    }
+
+    /// Removes a piece's record, if it is still stored.
+    #[tactic(auto, using(crate::proofs::CountLemmas::leaves_counted_one))]
+    pub fn remove_piece(&mut self, piece: &Piece<K, V, P>) -> Option<Left<K, V, P>>
+        ensures resident { is_some result ≡ is_resident (state_of self.old.shard) piece.now }
+        ensures removed { IfSome result (λ left. TakesRecordOut (meaning_of self.old.shard) (state_of self.old.shard) piece.now.id left (state_of self.new.shard)) }
+        ensures none { IfNone result (state_of self.new.shard ≡ state_of self.old.shard) }
+        ensures opens { opens_of self.new.shard ≡ opens_of self.old.shard }
+        ensures counts { self.new.stats ≡ leaves_counted P.phantom_of P.expiry_of FIRST (taken_out result) self.old.stats }
+    {
+        let left = self.shard.remove_piece(piece)?;
+        self.stats.count_left(FIRST, Event::Remove, &left);
+        Some(left)
     }
 }

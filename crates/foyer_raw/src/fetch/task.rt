@@ -170,13 +170,10 @@ where
             return;
         }
         if let Some(key) = key {
-            let error = Error::new(Reason::TaskCancelled);
-            shares.ended(
-                shares
-                    .shared
-                    .shards
-                    .end(fetch.hashed(&key), fetch.id, error),
-            );
+            let (key, error) = (fetch.hashed(&key), Error::new(Reason::TaskCancelled));
+            let alloc = shares.shared.shards.alloc;
+            let ended = shares.of(&key).end(alloc, key, fetch.id, error);
+            shares.ended(ended);
         }
     }
 }

@@ -55,17 +55,19 @@ where
     {
         let properties = expiring(properties, fetch.now, fetch.time_to_live);
         let kept = self.shared.data(fetch.hash, key, value, properties);
+        let alloc = self.shared.shards.alloc;
         let ended = self
-            .shared
-            .shards
-            .complete(fetch.now, fetch.id, kept, source);
+            .lock(kept.hash)
+            .complete(alloc, fetch.now, fetch.id, kept, source);
         self.ended(ended);
     }
 
     // Ends a fetch with a fault.
     pub(crate) fn fail(&self, fetch: Fetch, key: &K, fault: Fault) {
-        let error = self.refusal(fault);
-        self.ended(self.shared.shards.end(fetch.hashed(key), fetch.id, error));
+        let (key, error) = (fetch.hashed(key), self.refusal(fault));
+        let alloc = self.shared.shards.alloc;
+        let ended = self.of(&key).end(alloc, key, fetch.id, error);
+        self.ended(ended);
     }
 
     // The refusal of a fault, which all who wait share.

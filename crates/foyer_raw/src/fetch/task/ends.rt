@@ -28,15 +28,11 @@ where
 {
     // Returns whether the fetch is open.
     pub(super) fn is_open(&self) -> bool {
-        let fetch = self.fetch;
-        match &self.key {
-            Some(key) => self
-                .shares
-                .shared
-                .shards
-                .is_open(fetch.hashed(key), fetch.id),
-            None => false,
-        }
+        let Some(key) = &self.key else {
+            return false;
+        };
+        let key = self.fetch.hashed(key);
+        self.shares.of(&key).is_open(key, self.fetch.id)
     }
 
     // Ends the fetch with what was fetched, inserted at the first caller's `now`, and gives all that wait their result. If
@@ -75,7 +71,7 @@ where
     // Returns a builder that a waiting caller brought, or else the waiting callers; none if the fetch isn't open.
     pub(super) fn later(&self) -> Option<Later<K, V, P, T::Required>> {
         let key = self.fetch.hashed(self.key.as_ref()?);
-        self.shares.shared.shards.fetch_or_take(key, self.fetch.id)
+        self.shares.of(&key).fetch_or_take(key, self.fetch.id)
     }
 
     // Gives all that wait the fault, or none.

@@ -124,13 +124,13 @@ where
     /// Returns the number of the record's handles. Locks its shard.
     #[inline]
     pub fn refs(&self) -> usize {
-        self.shares.shared.shards.refs(&self.core)
+        self.shares.lock(self.core.hash()).refs(&self.core)
     }
 
     /// Returns whether the record has left the cache, replaced by another or otherwise. Locks its shard.
     #[inline]
     pub fn is_outdated(&self) -> bool {
-        self.shares.shared.shards.is_outdated(&self.core)
+        self.shares.lock(self.core.hash()).is_outdated(&self.core)
     }
 
     /// Returns another entry of the same record. This counts no use. Locks the record's shard.
@@ -139,7 +139,7 @@ where
     /// F9 if the handle count would pass its limit, F7 if a reference count is full.
     #[inline]
     pub fn try_clone(&self) -> Result<Self> {
-        let core = self.shares.shared.shards.clone_handle(&self.core)?;
+        let core = self.shares.lock(self.core.hash()).clone_handle(&self.core)?;
         match self.shares.try_clone() {
             Ok(shares) => Ok(shares.entry(core)),
             Err(refused) => {

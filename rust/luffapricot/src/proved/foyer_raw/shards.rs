@@ -3,15 +3,14 @@
 // Written by rust/erase/erase.py from crates/foyer_raw/src/shards.rt: change that.
 #[allow(unused_imports)]
 use crate::rattle_std::prelude::*;
-use crate::proved::foyer_raw::counted::{Capacity, CountedShard, Hashed, RawShard};
+use crate::proved::foyer_raw::counted::{Capacity, CountedShard, RawShard};
 use crate::proved::foyer_core::{Finder, shard_of};
-use crate::proved::foyer_policy::{Event, EventListener, Eviction, Key, Properties, Result, Value};
+use crate::proved::foyer_policy::{Error, Event, EventListener, Eviction, Key, Properties, Result, Value};
 use crate::rattle_std::alloc::Global;
 use crate::rattle_std::hint::spin_loop;
 use crate::rattle_std::sync::{Mutex, MutexGuard, Wait};
 
 mod bulk;
-mod calls;
 
 // How often a thread looks whether a lock is free, before it sleeps.
 const LOOKS: u32 = 100;
@@ -99,10 +98,11 @@ where
         }
     }
 
-    // The shard of a key, locked.
-    #[inline(always)]
-    fn of(&self, key: &Hashed<'_, K>) -> MutexGuard<'_, CountedShard<E, K, V, P, R, I>> {
-        self.lock(key.hash())
+    // Refuses an insert for which memory ran out.
+    #[cold]
+    #[inline(never)]
+    pub(crate) fn refuse_insert(&self, hash: u64, key: &K, properties: &P, weight: usize) -> Error {
+        self.lock(hash).refuse_insert(hash, key, properties, weight)
     }
 
     // A shard whose lock was held, locked. A step of a shard is short, and mostly ends before a thread would be asleep: so

@@ -72,7 +72,8 @@ where
     // holds for ever, the weighter isn't asked, and this is 0.
     #[inline]
     pub(crate) fn weight_of(&self, hash: u64, piece: &Piece<K, V, P>) -> usize {
-        if self.shards.knows(hash, piece) {
+        let is_known = self.shards.lock(hash).knows(hash, piece);
+        if is_known {
             return 0;
         }
         self.rules.weighter.weigh(piece.key(), piece.value())
@@ -94,6 +95,10 @@ where
         } else {
             0
         };
-        self.shards.complete_piece(now, key, fetch, piece, own, weight)
+        let shards = &self.shards;
+        let is_home = shards.index_of(own) == shards.index_of(key.hash());
+        shards
+            .lock(key.hash())
+            .complete_piece(shards.alloc, now, key, fetch, piece, own, is_home, weight)
     }
 }

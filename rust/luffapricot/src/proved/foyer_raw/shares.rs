@@ -3,7 +3,7 @@
 // Written by rust/erase/erase.py from crates/foyer_raw/src/shares.rt: change that.
 #[allow(unused_imports)]
 use crate::rattle_std::prelude::*;
-use crate::proved::foyer_raw::counted::RawEnded;
+use crate::proved::foyer_raw::counted::{CountedShard, Hashed, RawEnded};
 use crate::proved::foyer_raw::entry::RawCacheEntry;
 use crate::proved::foyer_raw::flush::Flush;
 use crate::proved::foyer_raw::leaves::Leaves;
@@ -13,7 +13,7 @@ use crate::proved::foyer_raw::stripes::Stripe;
 use crate::proved::foyer_raw::ticket::{Answer, Notifier, Ticket, Waiters, refuse};
 use crate::proved::foyer_core::{Answers, CoreEntry, Ended, Finder, Leave, Left, Piece};
 use crate::proved::foyer_policy::{EventListener, Eviction, Key, Properties, Result, Value};
-use crate::rattle_std::sync::{Arc, Wait};
+use crate::rattle_std::sync::{Arc, MutexGuard, Wait};
 
 mod ending;
 
@@ -71,6 +71,18 @@ where
     I: Finder<K>,
     Q: Pipe<Key = K, Value = V, Properties = P>,
 {
+    // The shard of a hash, locked.
+    #[inline(always)]
+    pub(crate) fn lock(&self, hash: u64) -> MutexGuard<'_, CountedShard<E, K, V, P, R, I>> {
+        self.shared.shards.lock(hash)
+    }
+
+    // The shard of a key, locked.
+    #[inline(always)]
+    pub(crate) fn of(&self, key: &Hashed<'_, K>) -> MutexGuard<'_, CountedShard<E, K, V, P, R, I>> {
+        self.lock(key.hash())
+    }
+
     // The entry of a handle.
     #[inline(always)]
     pub(crate) fn entry(self, core: CoreEntry<K, V, P>) -> RawCacheEntry<H, E, K, V, S, P, W, A, L, Q, R, I> {
@@ -105,10 +117,13 @@ where
         self.tell_all(more);
     }
 
-    // Takes a handle back under its shard's lock, and then tells what left with it.
+    // Takes a handle back under its shard's lock, and then tells what left with it. A handle that the shard doesn't know is
+    // discarded.
     #[inline(always)]
     pub(crate) fn give_back(&self, core: CoreEntry<K, V, P>) {
-        if let Some(leave) = self.shared.shards.give_back(core) {
+        let taken = self.lock(core.hash()).take_back(&core);
+        core.discard();
+        if let Ok(Some(leave)) = taken {
             self.tell(leave);
         }
     }

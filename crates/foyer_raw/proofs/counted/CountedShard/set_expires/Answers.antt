@@ -11,7 +11,8 @@ use Rattle.foyer_core.specs.declared.stats.Counted.TheVariants.{Refused}
 use Rattle.foyer_core.proofs.StoredLemmas.{err_is}
 use Rattle.foyer_raw.specs.Conditional.{IsAgain, SetsExpiry}
 use Rattle.foyer_raw.specs.Counts.{leaves_counted, put_counted}
-use Rattle.foyer_raw.proofs.Used.{behind_nothing, from_nothing, puts_again, used}
+use Rattle.foyer_raw.specs.Told.{told_of}
+use Rattle.foyer_raw.proofs.Used.{nothing_told, puts_again, used}
 use Rattle.foyer_raw.proofs.counted.CountedShard.set_expires.Goals as goal
 
 pub returns-in_ok-put_answering-in-Some-kept : goal.returns-in_ok-put_answering-in-Some-kept
@@ -26,21 +27,13 @@ returns-in_ok-put_answering-in-Some-kept g c =
     rw (← c.key.view_is) (rw c.in-Some.is at c.in_ok-entry.ensures.gets) in
     puts_again m c.args.now.0
     (IsAgain g.K.Clone.is_clone g.V.Clone.is_clone g.P.Clone.is_clone g.P.Properties.with_expiry_of c.args.expires)
-    c.args.key (Ok put.field-0) c.put_answering.new.leaves.items (state_of s.shard) (state_of back)
+    c.args.key (Ok put.field-0) (told_of c.put_answering.new.leaves) (state_of s.shard) (state_of back)
     (state_of c.put_answering.new.self.shard) c.in-Some.entry kept (opens_of s.shard) (opens_of back)
     (opens_of c.put_answering.new.self.shard) s.stats c.count-2.new.self c.put_answering.new.self.stats
     (used m g.met.K.Eq.laws g.met.E.Eviction.lawful c.args.now.0 (state_of s.shard) s.shard.store.sound c.args.key
     c.in-Some.entry mid gets c.take_back.result (state_of back) c.take_back.ensures.taken c.take_back.ensures.foreign)
     c.in-Some-kept.ensures (c.take_back.ensures.opens ∙ c.get.ensures.opens) c.count-2.ensures
-    (from_nothing c.args.leaves.now.items c.put_answering.new.leaves.items
-    (λ ls. PutsAnswering m c.args.now.0 (state_of back)
-    (newcomer (state_of back) kept (1 + waiting_for (opens_of back) (key_of kept))) (last_of (Ok put.field-0)) ls
-    (state_of c.put_answering.new.self.shard)) c.requires.untold put.ensures.puts)
-    put.ensures.answers put.ensures.opens (put.ensures.counts
-    ∙ ap (λ ls. leaves_counted m.phantom m.expires c.args.now.0 ls
-    (put_counted (is_phantom (m.phantom kept.properties)) (Ok put.field-0) c.count-2.new.self))
-    (behind_nothing c.args.leaves.now.items c.put_answering.new.leaves.items (vec_len c.args.leaves.now)
-    c.requires.untold c.args.leaves.now.ok.0))
+    put.ensures.puts put.ensures.answers put.ensures.opens put.ensures.counts
 
 pub returns-in_err-put_answering-in-Some-kept : goal.returns-in_err-put_answering-in-Some-kept
 returns-in_err-put_answering-in-Some-kept g c =
@@ -55,26 +48,18 @@ returns-in_err-put_answering-in-Some-kept g c =
     err_is c.from_residual-in_err-put_answering-in-Some-kept.result put.field-0.0
     (λ r. SetsExpiry m c.args.now.0
     (IsAgain g.K.Clone.is_clone g.V.Clone.is_clone g.P.Clone.is_clone g.P.Properties.with_expiry_of c.args.expires)
-    c.args.key r c.put_answering.new.leaves.items (state_of s.shard) (state_of c.put_answering.new.self.shard)
+    c.args.key r (told_of c.put_answering.new.leaves) (state_of s.shard) (state_of c.put_answering.new.self.shard)
     (opens_of s.shard) (opens_of c.put_answering.new.self.shard) s.stats c.put_answering.new.self.stats)
     c.from_residual-in_err-put_answering-in-Some-kept.ensures.1
     (inl (puts_again m c.args.now.0
     (IsAgain g.K.Clone.is_clone g.V.Clone.is_clone g.P.Clone.is_clone g.P.Properties.with_expiry_of c.args.expires)
-    c.args.key (Err put.field-0.0) c.put_answering.new.leaves.items (state_of s.shard) (state_of back)
+    c.args.key (Err put.field-0.0) (told_of c.put_answering.new.leaves) (state_of s.shard) (state_of back)
     (state_of c.put_answering.new.self.shard) c.in-Some.entry kept (opens_of s.shard) (opens_of back)
     (opens_of c.put_answering.new.self.shard) s.stats c.count-2.new.self c.put_answering.new.self.stats
     (used m g.met.K.Eq.laws g.met.E.Eviction.lawful c.args.now.0 (state_of s.shard) s.shard.store.sound c.args.key
     c.in-Some.entry mid gets c.take_back.result (state_of back) c.take_back.ensures.taken c.take_back.ensures.foreign)
     c.in-Some-kept.ensures (c.take_back.ensures.opens ∙ c.get.ensures.opens) c.count-2.ensures
-    (from_nothing c.args.leaves.now.items c.put_answering.new.leaves.items
-    (λ ls. PutsAnswering m c.args.now.0 (state_of back)
-    (newcomer (state_of back) kept (1 + waiting_for (opens_of back) (key_of kept))) (Err put.field-0.0) ls
-    (state_of c.put_answering.new.self.shard)) c.requires.untold put.ensures.puts)
-    put.ensures.answers put.ensures.opens (put.ensures.counts
-    ∙ ap (λ ls. leaves_counted m.phantom m.expires c.args.now.0 ls
-    (counted Refused c.count-2.new.self))
-    (behind_nothing c.args.leaves.now.items c.put_answering.new.leaves.items (vec_len c.args.leaves.now)
-    c.requires.untold c.args.leaves.now.ok.0))))
+    put.ensures.puts put.ensures.answers put.ensures.opens put.ensures.counts))
 
 pub returns-in-None : goal.returns-in-None
 returns-in-None g c =
@@ -84,7 +69,7 @@ returns-in-None g c =
     let gets : Gets m c.args.now.0 (state_of s.shard) c.args.key (Ok (Some c.in-Some.entry)) mid =
     rw (← c.key.view_is) (rw c.in-Some.is at c.in_ok-entry.ensures.gets) in
     inr (
-      c.requires.untold,
+      nothing_told c.args.leaves.now c.requires.untold,
       c.take_back.ensures.opens ∙ c.get.ensures.opens,
       inr (
         (search rules),

@@ -90,7 +90,8 @@ where
         } = self.asking(&key)?;
         let shards = &self.shares.shared.shards;
         let hash = key.hash();
-        match shards.get_or_enqueue(now, key, None, notifier)? {
+        let asked = self.shares.of(&key).get_or_enqueue(now, key, None, notifier)?;
+        match asked {
             Lookup::Hit(core) => return Ok(shares.entry(core)),
             Lookup::Wait { token: _ } => {}
             Lookup::Lead {

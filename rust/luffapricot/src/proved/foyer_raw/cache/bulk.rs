@@ -168,7 +168,8 @@ where
                 if keep(piece.key(), piece.value()) {
                     continue;
                 }
-                if let Some(left) = shards.remove_piece(piece) {
+                let taken = shards.lock(piece.hash()).remove_piece(piece);
+                if let Some(left) = taken {
                     self.shares.tell((Event::Remove, left));
                 }
             }

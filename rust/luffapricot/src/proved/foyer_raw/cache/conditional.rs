@@ -60,7 +60,10 @@ where
         };
         let shards = &self.shares.shared.shards;
         let mut leaves = Leaves::new(shards.alloc);
-        let replaced = shards.replace_if(At::new(now), seen, kept, &mut leaves);
+        let replaced =
+            shards
+                .lock(kept.hash())
+                .replace_if(shards.alloc, At::new(now), seen, kept, &mut leaves);
         drop(spare);
         match replaced {
             Ok(Replaced::Inserted(made)) => Ok(Replaced::Inserted(self.entered(shares, made, leaves))),
@@ -88,7 +91,9 @@ where
         let (shares, kept, spare) = self.ready(kept)?;
         let shards = &self.shares.shared.shards;
         let mut leaves = Leaves::new(shards.alloc);
-        let made = shards.insert_if_fits(At::new(now), kept, &mut leaves);
+        let made = shards
+            .lock(kept.hash())
+            .insert_if_fits(shards.alloc, At::new(now), kept, &mut leaves);
         drop(spare);
         match made {
             Ok(Some(made)) => Ok(Some(self.entered(shares, made, leaves))),
@@ -112,14 +117,18 @@ where
         P: TryClone,
     {
         let shards = &self.shares.shared.shards;
-        let mut leaves = Vec::new(shards.alloc);
-        match shards.set_expires(At::new(now), self.hashed(key), expires, &mut leaves) {
+        let (key, mut leaves) = (self.hashed(key), Leaves::new(shards.alloc));
+        let put = self
+            .shares
+            .of(&key)
+            .set_expires(shards.alloc, At::new(now), key, expires, &mut leaves);
+        match put {
             Ok(Some(put)) => {
                 self.was_put(put, leaves);
                 Ok(true)
             }
             Ok(None) => Ok(false),
-            Err(error) => Err(self.refused(error, leaves)),
+            Err(error) => Err(self.failed(error, leaves)),
         }
     }
 
@@ -129,7 +138,9 @@ where
     /// A record of another cache isn't removed, if the caches have different numbers (`RawCacheConfig`).
     #[inline]
     pub fn remove_this(&self, entry: &RawCacheEntry<H, E, K, V, S, P, W, A, L, Q, T::Required, I>) -> bool {
-        match self.shares.shared.shards.remove_this(entry.core()) {
+        let core = entry.core();
+        let taken = self.shares.lock(core.hash()).remove_this(core);
+        match taken {
             Some(left) => {
                 self.shares.tell((Event::Remove, left));
                 true
@@ -168,7 +179,7 @@ where
 
     // The entry of an insert, after the waiting callers got their results and what left was told.
     #[inline]
-    fn entered(
+    pub(crate) fn entered(
         &self,
         shares: Shares<H, E, K, V, S, P, W, A, L, Q, T::Required, I>,
         made: RawInserted<K, V, P>,
@@ -182,7 +193,7 @@ where
 
     // The error of an insert, after what left all the same was told.
     #[inline]
-    fn failed(&self, error: Error, leaves: Leaves<K, V, P>) -> Error {
+    pub(crate) fn failed(&self, error: Error, leaves: Leaves<K, V, P>) -> Error {
         self.shares.tell_leaves(leaves);
         error
     }

@@ -118,12 +118,11 @@ where
             waiter,
         } = asking;
         let hash = key.hash();
-        match self
+        let asked = self
             .shares
-            .shared
-            .shards
-            .get_or_enqueue(now, key, required, notifier)?
-        {
+            .of(&key)
+            .get_or_enqueue(now, key, required, notifier)?;
+        match asked {
             Lookup::Hit(core) => Ok(RawGetOrFetch::Hit(Some(shares.entry(core)))),
             Lookup::Lead {
                 fetch,

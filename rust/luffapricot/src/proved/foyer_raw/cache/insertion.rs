@@ -4,14 +4,14 @@
 #[allow(unused_imports)]
 use crate::rattle_std::prelude::*;
 use super::RawCache;
-use crate::proved::foyer_raw::counted::{At, RawInserted, RawPut};
+use crate::proved::foyer_raw::counted::{At, RawPut};
 use crate::proved::foyer_raw::entry::RawCacheEntry;
 use crate::proved::foyer_raw::expiry::expiring;
 use crate::proved::foyer_raw::fetch::FetchTypes;
 use crate::proved::foyer_raw::leaves::Leaves;
 use crate::proved::foyer_raw::pipe::Pipe;
 use crate::proved::foyer_raw::shares::Shares;
-use crate::proved::foyer_core::{CoreEntry, Filter, Finder, InsertedOnto, Leave, Piece, PutOnto, Share, Weighter};
+use crate::proved::foyer_core::{CoreEntry, Filter, Finder, Piece, PutOnto, Share, Weighter};
 use crate::proved::foyer_policy::{
     Error, EventListener, Eviction, HashBuilder, Key, Properties, Reason, Result, Source, Value,
 };
@@ -91,7 +91,9 @@ where
             return Err(shards.refuse_insert(hash, key, properties, kept.weight()));
         };
         let (mut leaves, mut later) = (Leaves::new(shards.alloc), None);
-        let placed = shards.place(At::new(now), kept, &mut entry, &mut leaves, &mut later);
+        let placed = shards
+            .lock(kept.hash())
+            .place(At::new(now), kept, &mut entry, &mut leaves, &mut later);
         if let Some(kept) = later {
             entry.discard();
             return self.insert_answering(now, shares, kept);
@@ -116,10 +118,13 @@ where
         kept: Share<K, V, P>,
     ) -> Result<RawCacheEntry<H, E, K, V, S, P, W, A, L, Q, T::Required, I>> {
         let shards = &self.shares.shared.shards;
-        let mut leaves = Vec::new(shards.alloc);
-        match shards.emplace(At::new(now), kept, &mut leaves) {
-            Ok(made) => Ok(self.came_in(shares, made, leaves)),
-            Err(error) => Err(self.refused(error, leaves)),
+        let mut leaves = Leaves::new(shards.alloc);
+        let made = shards
+            .lock(kept.hash())
+            .emplace(shards.alloc, At::new(now), kept, &mut leaves);
+        match made {
+            Ok(made) => Ok(self.entered(shares, made, leaves)),
+            Err(error) => Err(self.failed(error, leaves)),
         }
     }
 
@@ -153,7 +158,9 @@ where
     fn put_share(&self, now: u64, kept: Share<K, V, P>) -> Result<()> {
         let shards = &self.shares.shared.shards;
         let (mut leaves, mut later) = (Leaves::new(shards.alloc), None);
-        let put = shards.put(At::new(now), kept, &mut leaves, &mut later);
+        let put = shards
+            .lock(kept.hash())
+            .put(At::new(now), kept, &mut leaves, &mut later);
         if let Some(kept) = later {
             return self.put_answering(now, kept);
         }
@@ -169,19 +176,22 @@ where
     #[inline(never)]
     fn put_answering(&self, now: u64, kept: Share<K, V, P>) -> Result<()> {
         let shards = &self.shares.shared.shards;
-        let mut leaves = Vec::new(shards.alloc);
-        match shards.put_answering(At::new(now), kept, &mut leaves) {
+        let mut leaves = Leaves::new(shards.alloc);
+        let put = shards
+            .lock(kept.hash())
+            .put_answering(shards.alloc, At::new(now), kept, &mut leaves);
+        match put {
             Ok(put) => Ok(self.was_put(put, leaves)),
-            Err(error) => Err(self.refused(error, leaves)),
+            Err(error) => Err(self.failed(error, leaves)),
         }
     }
 
     // Gives the waiting callers their results, and then tells what left with a put.
     #[inline]
-    pub(crate) fn was_put(&self, put: RawPut<K, V, P>, leaves: Vec<Leave<K, V, P>>) {
+    pub(crate) fn was_put(&self, put: RawPut<K, V, P>, leaves: Leaves<K, V, P>) {
         let PutOnto { answers, last } = put;
         self.shares.answer(answers);
-        self.shares.tell_all(leaves);
+        self.shares.tell_leaves(leaves);
         if let Some(last) = last {
             self.shares.tell(last);
         }
@@ -206,39 +216,20 @@ where
         let shares = match shares {
             Ok(shares) => shares,
             Err(refused) => {
-                let reason = shared.shards.refuse_piece(hash, weight, &piece);
+                let reason = self.shares.lock(hash).refuse_piece(hash, weight, &piece);
                 return Err(first_of(reason, refused));
             }
         };
-        let mut leaves = Vec::new(shared.shards.alloc);
-        match shared
-            .shards
-            .emplace_piece(At::new(now), piece, hash, weight, &mut leaves)
-        {
-            Ok(made) => Ok(self.came_in(shares, made, leaves)),
-            Err(error) => Err(self.refused(error, leaves)),
+        let alloc = shared.shards.alloc;
+        let mut leaves = Leaves::new(alloc);
+        let made =
+            self.shares
+                .lock(hash)
+                .emplace_piece(alloc, At::new(now), piece, hash, weight, &mut leaves);
+        match made {
+            Ok(made) => Ok(self.entered(shares, made, leaves)),
+            Err(error) => Err(self.failed(error, leaves)),
         }
-    }
-
-    // Returns the entry of an insert, after the waiting callers got their results and what left was reported.
-    #[inline]
-    fn came_in(
-        &self,
-        shares: Shares<H, E, K, V, S, P, W, A, L, Q, T::Required, I>,
-        made: RawInserted<K, V, P>,
-        leaves: Vec<Leave<K, V, P>>,
-    ) -> RawCacheEntry<H, E, K, V, S, P, W, A, L, Q, T::Required, I> {
-        let InsertedOnto { entry, answers } = made;
-        self.shares.answer(answers);
-        self.shares.tell_all(leaves);
-        shares.entry(entry)
-    }
-
-    // Returns the error of an insert, after what left all the same was reported.
-    #[inline]
-    pub(crate) fn refused(&self, error: Error, leaves: Vec<Leave<K, V, P>>) -> Error {
-        self.shares.tell_all(leaves);
-        error
     }
 }
 

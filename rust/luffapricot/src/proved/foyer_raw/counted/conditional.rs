@@ -3,12 +3,11 @@
 // Written by rust/erase/erase.py from crates/foyer_raw/src/counted/conditional.rt: change that.
 #[allow(unused_imports)]
 use crate::rattle_std::prelude::*;
-use super::counts::{count_leaves, count_made};
 use super::{At, CountedShard, FIRST, Hashed, RawInserted, RawPut};
 use crate::proved::foyer_raw::leaves::Leaves;
 use crate::proved::foyer_raw::replaced::Replaced;
-use crate::proved::foyer_core::{CoreEntry, Counted, Data, Finder, Hold, Leave, Left, Share};
-use crate::proved::foyer_policy::{Error, Event, Eviction, Key, Properties, Reason, Result, Source, Value};
+use crate::proved::foyer_core::{CoreEntry, Counted, Data, Finder, Hold, Left, Share};
+use crate::proved::foyer_policy::{Error, Event, Eviction, Key, Properties, Reason, Result, Value};
 use crate::rattle_std::alloc::Global;
 
 /// What a conditional insert returns that has not failed.
@@ -32,9 +31,7 @@ impl<E: Eviction, K: Key, V: Value, P: Properties, R, I: Finder<K>> CountedShard
             let found = self.shard.get(now.0, kept.hash(), kept.key())?;
             return Ok(Replaced::Changed(found));
         }
-        Ok(Replaced::Inserted(
-            self.emplace_leaving(alloc, now, kept, leaves)?,
-        ))
+        Ok(Replaced::Inserted(self.emplace(alloc, now, kept, leaves)?))
     }
 
     // Whether the key of these data still has what was seen.
@@ -66,25 +63,7 @@ impl<E: Eviction, K: Key, V: Value, P: Properties, R, I: Finder<K>> CountedShard
         if !self.shard.would_fit(kept.hash(), kept.key(), kept.weight()) {
             return Ok(None);
         }
-        Ok(Some(self.emplace_leaving(alloc, now, kept, leaves)?))
-    }
-
-    // Inserts a record at a time with this share of its data, also while fetches are open.
-    #[inline]
-    fn emplace_leaving(
-        &mut self,
-        alloc: Global,
-        now: At,
-        kept: Share<K, V, P>,
-        leaves: &mut Leaves<K, V, P>,
-    ) -> Result<RawInserted<K, V, P>> {
-        let made = self
-            .shard
-            .emplace_share(alloc, now.0, kept, Source::Outer, &mut self.left);
-        count_made(&mut self.stats, &made);
-        count_leaves(&mut self.stats, now.0, self.left.as_slice());
-        leaves.take(&mut self.left);
-        made
+        Ok(Some(self.emplace(alloc, now, kept, leaves)?))
     }
 
     /// Removes an entry's record, expired or not, if its key still has it, and returns it as it left (`Remove`).
@@ -113,7 +92,7 @@ impl<E: Eviction, K: Key, V: Value, P: Properties, R, I: Finder<K>> CountedShard
         now: At,
         key: Hashed<'_, K>,
         expires: Option<u64>,
-        leaves: &mut Vec<Leave<K, V, P>>,
+        leaves: &mut Leaves<K, V, P>,
     ) -> Result<Option<RawPut<K, V, P>>>
     where
         V: TryClone,

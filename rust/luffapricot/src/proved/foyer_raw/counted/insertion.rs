@@ -62,43 +62,43 @@ impl<E: Eviction, K: Key, V: Value, P: Properties, R, I: Finder<K>> CountedShard
         put
     }
 
-    /// Inserts a record at a time with this share of its data, also while fetches are open, and appends what leaves.
+    /// Inserts a record at a time with this share of its data, also while fetches are open.
     #[inline]
     pub fn emplace(
         &mut self,
         alloc: Global,
         now: At,
         kept: Share<K, V, P>,
-        leaves: &mut Vec<Leave<K, V, P>>,
+        leaves: &mut Leaves<K, V, P>,
     ) -> Result<RawInserted<K, V, P>> {
-        let told = leaves.len();
         let made = self
             .shard
-            .emplace_share(alloc, now.0, kept, Source::Outer, leaves);
+            .emplace_share(alloc, now.0, kept, Source::Outer, &mut self.left);
         count_made(&mut self.stats, &made);
-        count_leaves(&mut self.stats, now.0, &leaves[told..]);
+        count_leaves(&mut self.stats, now.0, self.left.as_slice());
+        leaves.take(&mut self.left);
         made
     }
 
-    /// Inserts a record as `put` does, also while fetches are open, and appends what leaves.
+    /// Inserts a record as `put` does, also while fetches are open.
     #[inline]
     pub fn put_answering(
         &mut self,
         alloc: Global,
         now: At,
         kept: Share<K, V, P>,
-        leaves: &mut Vec<Leave<K, V, P>>,
+        leaves: &mut Leaves<K, V, P>,
     ) -> Result<RawPut<K, V, P>> {
-        let told = leaves.len();
         let phantom = is_phantom(kept.properties());
-        let put = self.shard.put_share(alloc, now.0, kept, leaves);
+        let put = self.shard.put_share(alloc, now.0, kept, &mut self.left);
         count_put(&mut self.stats, &put, phantom);
-        count_leaves(&mut self.stats, now.0, &leaves[told..]);
+        count_leaves(&mut self.stats, now.0, self.left.as_slice());
+        leaves.take(&mut self.left);
         put
     }
 
-    /// Inserts a piece's record at a time, and appends what leaves. The piece's key has this hash, and the record has this
-    /// weight if the shard doesn't know the piece.
+    /// Inserts a piece's record at a time. The piece's key has this hash, and the record has this weight if the shard doesn't
+    /// know the piece.
     #[inline]
     pub fn emplace_piece(
         &mut self,
@@ -107,14 +107,14 @@ impl<E: Eviction, K: Key, V: Value, P: Properties, R, I: Finder<K>> CountedShard
         piece: Piece<K, V, P>,
         hash: u64,
         weight: usize,
-        leaves: &mut Vec<Leave<K, V, P>>,
+        leaves: &mut Leaves<K, V, P>,
     ) -> Result<RawInserted<K, V, P>> {
-        let told = leaves.len();
         let made = self
             .shard
-            .emplace_piece(alloc, now.0, piece, hash, weight, leaves);
+            .emplace_piece(alloc, now.0, piece, hash, weight, &mut self.left);
         count_made(&mut self.stats, &made);
-        count_leaves(&mut self.stats, now.0, &leaves[told..]);
+        count_leaves(&mut self.stats, now.0, self.left.as_slice());
+        leaves.take(&mut self.left);
         made
     }
 

@@ -1,12 +1,13 @@
-//! Calls on a key.
+//! Calls on a key, an entry or a piece.
 
 // Written by rust/erase/erase.py from crates/foyer_raw/src/counted/keys.rt: change that.
 #[allow(unused_imports)]
 use crate::rattle_std::prelude::*;
 use super::counts::{count_deleted, count_first_look, count_look_up, count_removed, count_touch};
 use super::{At, CountedShard, FIRST, Hashed};
-use crate::proved::foyer_core::{CoreEntry, Counted, Finder, Got, Left};
-use crate::proved::foyer_policy::{Eviction, Key, Properties, Reason, Result, Value};
+use crate::proved::foyer_core::{CoreEntry, Counted, Finder, Foreign, Got, Leave, Left, Piece};
+use crate::proved::foyer_policy::{Error, Event, Eviction, Key, Properties, Reason, Result, Value};
+use crate::rattle_std::alloc::Global;
 
 impl<E: Eviction, K: Key, V: Value, P: Properties, R, I: Finder<K>> CountedShard<E, K, V, P, R, I> {
     /// Looks a key up at a time, and counts a hit or a miss. The entry has no share for `left`.
@@ -90,5 +91,62 @@ impl<E: Eviction, K: Key, V: Value, P: Properties, R, I: Finder<K>> CountedShard
     #[inline]
     pub fn refuses_get(&self, key: Hashed<'_, K>) -> Option<Reason> {
         self.shard.refuses_get(FIRST, key.hash, key.key)
+    }
+
+    /// Takes an entry's handle back and returns what left with it. Then the entry must be discarded.
+    #[inline(always)]
+    pub fn take_back(
+        &mut self,
+        entry: &CoreEntry<K, V, P>,
+    ) -> crate::rattle_std::result::Result<Option<Leave<K, V, P>>, Foreign> {
+        self.shard.take_back(entry)
+    }
+
+    /// Returns one more entry of the same record. It counts as a handle and not as a use.
+    ///
+    /// # Errors
+    /// F9 if the handle count would pass its limit, F7 if a reference count is full or the shard doesn't know the entry;
+    /// nothing has changed.
+    #[inline]
+    pub fn clone_handle(&mut self, entry: &CoreEntry<K, V, P>) -> Result<CoreEntry<K, V, P>> {
+        if !self.shard.owns(entry) {
+            return Err(Error::new(Reason::NoMemory));
+        }
+        self.shard.clone_handle(entry)
+    }
+
+    /// Returns how many handles the entry's record has: 0 if the shard doesn't know the entry.
+    #[inline]
+    pub fn refs(&self, entry: &CoreEntry<K, V, P>) -> usize {
+        if !self.shard.owns(entry) {
+            return 0;
+        }
+        self.shard.refs(entry)
+    }
+
+    /// Returns whether the entry's record is no longer resident, or the shard doesn't know the entry.
+    #[inline]
+    pub fn is_outdated(&self, entry: &CoreEntry<K, V, P>) -> bool {
+        if !self.shard.owns(entry) {
+            return true;
+        }
+        self.shard.is_outdated(entry)
+    }
+
+    /// Returns a piece of each resident record, expired or not, in the policy's order.
+    ///
+    /// # Errors
+    /// F7 if memory runs out.
+    #[inline]
+    pub fn pieces(&self, alloc: Global) -> Result<Vec<Piece<K, V, P>>> {
+        self.shard.pieces(alloc)
+    }
+
+    /// Removes a piece's record, if it is still stored.
+    #[inline]
+    pub fn remove_piece(&mut self, piece: &Piece<K, V, P>) -> Option<Left<K, V, P>> {
+        let left = self.shard.remove_piece(piece)?;
+        self.stats.count_left(FIRST, Event::Remove, &left);
+        Some(left)
     }
 }

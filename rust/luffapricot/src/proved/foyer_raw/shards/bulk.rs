@@ -86,16 +86,10 @@ where
             let part = capacity.part(shards.len(), number);
             shard.lock(&self.rt).set_capacity(part);
         }
-        let done = self.evict_to_capacity(now, leaves);
-        drop(resizing);
-        done
-    }
-
-    #[inline]
-    fn evict_to_capacity(&self, now: At, leaves: &mut Vec<Leave<K, V, P>>) -> Result<()> {
-        for shard in self.all.as_slice() {
+        for shard in shards {
             shard.lock(&self.rt).evict_to_capacity(now, leaves)?;
         }
+        drop(resizing);
         Ok(())
     }
 
@@ -103,7 +97,8 @@ where
     #[inline]
     pub(crate) fn all_take(&self, config: &E::Config) -> bool {
         for shard in self.all.as_slice() {
-            if !shard.lock(&self.rt).takes(config) {
+            let is_taken = shard.lock(&self.rt).takes(config);
+            if !is_taken {
                 return false;
             }
         }
@@ -151,9 +146,9 @@ where
     // Pieces of the records of the shard at a place.
     #[inline]
     pub(crate) fn pieces(&self, place: usize) -> Result<Vec<Piece<K, V, P>>> {
-        match self.all.get(place) {
-            Some(shard) => shard.lock(&self.rt).pieces(self.alloc),
-            None => Ok(Vec::new(self.alloc)),
-        }
+        let Some(shard) = self.all.get(place) else {
+            return Ok(Vec::new(self.alloc));
+        };
+        shard.lock(&self.rt).pieces(self.alloc)
     }
 }
