@@ -135,7 +135,8 @@ where
     pub fn try_unwrap(
         self,
     ) -> std::result::Result<Result<CacheEntry<H, K, V, S, P, W, A, L, Q, T, I>>, Self>
-        ensures hit { is_miss self.look ≡ false → MatchOption (entry_of self.look) (result ≡ Ok (Err Spent)) (λ e. result ≡ Ok (Ok (record { entry = e; kind = self.kind }))) }
+        ensures hit { is_miss self.look ≡ false → MatchOption (entry_of self.look) (result ≡ Ok (Err Spent))
+            (λ e. result ≡ Ok (Ok (record { entry = e; kind = self.kind }))) }
         ensures miss { is_miss self.look ≡ true → result ≡ Err self }
     {
         let GetOrFetch { look, kind } = self;
@@ -151,7 +152,8 @@ where
         &mut self,
         cx: &mut Context<'_>,
     ) -> Poll<Result<Option<CacheEntry<H, K, V, S, P, W, A, L, Q, T, I>>>>
-        ensures hit { is_miss self.old.look ≡ false → MatchOption (entry_of self.old.look) (result ≡ Poll.Ready (Err Spent)) (λ e. result ≡ Poll.Ready (Ok (Some (record { entry = e; kind = self.old.kind })))) }
+        ensures hit { is_miss self.old.look ≡ false → MatchOption (entry_of self.old.look) (result ≡ Poll.Ready (Err Spent))
+            (λ e. result ≡ Poll.Ready (Ok (Some (record { entry = e; kind = self.old.kind })))) }
         ensures spent { is_miss self.old.look ≡ false → (entry_of self.new.look ≡ None) × (is_miss self.new.look ≡ false) }
         ensures kind { self.new.kind ≡ self.old.kind }
         ensures registered { OnPending result (Covers cx.new (λ _. ⊥)) }
@@ -195,7 +197,8 @@ where
         ensures same { GivesAny result }
         ensures registered { OnPending result (Covers cx.new (λ _. ⊥)) }
         ensures kept { Keeps cx.old cx.new }
-        ensures hit { is_miss self.old.look ≡ false → MatchOption (entry_of self.old.look) (result ≡ Poll.Ready (Err Spent)) (λ e. result ≡ Poll.Ready (Ok (record { entry = e; kind = self.old.kind }))) }
+        ensures hit { is_miss self.old.look ≡ false → MatchOption (entry_of self.old.look) (result ≡ Poll.Ready (Err Spent))
+            (λ e. result ≡ Poll.Ready (Ok (record { entry = e; kind = self.old.kind }))) }
         ensures spent { is_miss self.old.look ≡ false → (entry_of self.new.look ≡ None) × (is_miss self.new.look ≡ false) }
         ensures kind { self.new.kind ≡ self.old.kind }
     {

@@ -75,7 +75,8 @@ module _ {K V P : Type 0} (phantom : P → Option Bool) (expires : P → Option 
 
   -- one record alone
   pub leaves_counted_one : (event : Event) (g : Gone K V P) (s : Stats)
-      → leaves_counted phantom expires now ((event, g) ∷ []) s ≡ left_counted (is_phantom (phantom g.kept.properties)) (is_expired now (expires g.kept.properties)) event s
+      → leaves_counted phantom expires now ((event, g) ∷ []) s
+      ≡ left_counted (is_phantom (phantom g.kept.properties)) (is_expired now (expires g.kept.properties)) event s
   leaves_counted_one event g s = leaves_counted-cons event g [] s
 
   -- one record after the other

@@ -41,8 +41,10 @@ where
     ) -> Result<CacheEntry<H, K, V, S, P, W, A, L, Q, T, I>>
         requires clones { (k c : K) → K.is_clone k c → K.eq c k ≡ true }
         ensures entry { IfOk result (λ e. (e.entry.kept.key ≡ key) × (e.entry.kept.value ≡ value)) }
-        ensures hash { IfOk result (λ e. e.entry.kept.hash ≡ S.hash_of (arc_value (arc_value (arc_value self.now.cache.shares.shared).shared).hash_builder) (K.hash_input key)) }
-        ensures weight { IfOk result (λ e. W.weighs (arc_value (arc_value self.now.cache.shares.shared).shared).rules.weighter key value e.entry.kept.weight) }
+        ensures hash { let shared = arc_value (arc_value self.now.cache.shares.shared).shared in
+            IfOk result (λ e. e.entry.kept.hash ≡ S.hash_of (arc_value shared.hash_builder) (K.hash_input key)) }
+        ensures weight { let shared = arc_value (arc_value self.now.cache.shares.shared).shared in
+            IfOk result (λ e. W.weighs shared.rules.weighter key value e.entry.kept.weight) }
         ensures kind { IfOk result (λ e. e.kind ≡ self.now.kind) }
     {
         let (entry, kind) = (self.cache.insert(now, key, value)?, self.kind);
@@ -67,7 +69,8 @@ where
     ) -> Result<CacheEntry<H, K, V, S, P, W, A, L, Q, T, I>>
         requires clones { (k c : K) → K.is_clone k c → K.eq c k ≡ true }
         ensures entry { IfOk result (λ e. (e.entry.kept.key ≡ key) × (e.entry.kept.value ≡ value)) }
-        ensures hash { IfOk result (λ e. e.entry.kept.hash ≡ S.hash_of (arc_value (arc_value (arc_value self.now.cache.shares.shared).shared).hash_builder) (K.hash_input key)) }
+        ensures hash { let shared = arc_value (arc_value self.now.cache.shares.shared).shared in
+            IfOk result (λ e. e.entry.kept.hash ≡ S.hash_of (arc_value shared.hash_builder) (K.hash_input key)) }
         ensures judged { let shared = arc_value (arc_value self.now.cache.shares.shared).shared in
             IfOk result (λ e. Judges (W.weighs shared.rules.weighter key value) (A.admits shared.rules.filter key value)
             (λ admitted. coming_in P.location_of P.with_phantom_of admitted (living P.expiry_of P.with_expiry_of now self.now.cache.time_to_live properties))
@@ -139,7 +142,8 @@ where
     ) -> Result<Replaced<CacheEntry<H, K, V, S, P, W, A, L, Q, T, I>>>
         requires clones { (k c : K) → K.is_clone k c → K.eq c k ≡ true }
         ensures entry { IfInserted result (λ e. (e.entry.kept.key ≡ key) × (e.entry.kept.value ≡ value)) }
-        ensures hash { IfInserted result (λ e. e.entry.kept.hash ≡ S.hash_of (arc_value (arc_value (arc_value self.now.cache.shares.shared).shared).hash_builder) (K.hash_input key)) }
+        ensures hash { let shared = arc_value (arc_value self.now.cache.shares.shared).shared in
+            IfInserted result (λ e. e.entry.kept.hash ≡ S.hash_of (arc_value shared.hash_builder) (K.hash_input key)) }
         ensures judged { let shared = arc_value (arc_value self.now.cache.shares.shared).shared in
             IfInserted result (λ e. Judges (W.weighs shared.rules.weighter key value) (A.admits shared.rules.filter key value)
             (λ admitted. coming_in P.location_of P.with_phantom_of admitted (living P.expiry_of P.with_expiry_of now self.now.cache.time_to_live properties))
@@ -176,7 +180,8 @@ where
     ) -> Result<Option<CacheEntry<H, K, V, S, P, W, A, L, Q, T, I>>>
         requires clones { (k c : K) → K.is_clone k c → K.eq c k ≡ true }
         ensures entry { IfOk result (λ made. IfSome made (λ e. (e.entry.kept.key ≡ key) × (e.entry.kept.value ≡ value))) }
-        ensures hash { IfOk result (λ made. IfSome made (λ e. e.entry.kept.hash ≡ S.hash_of (arc_value (arc_value (arc_value self.now.cache.shares.shared).shared).hash_builder) (K.hash_input key))) }
+        ensures hash { let shared = arc_value (arc_value self.now.cache.shares.shared).shared in
+            IfOk result (λ made. IfSome made (λ e. e.entry.kept.hash ≡ S.hash_of (arc_value shared.hash_builder) (K.hash_input key))) }
         ensures judged { let shared = arc_value (arc_value self.now.cache.shares.shared).shared in
             IfOk result (λ made. IfSome made (λ e. Judges (W.weighs shared.rules.weighter key value) (A.admits shared.rules.filter key value)
             (λ admitted. coming_in P.location_of P.with_phantom_of admitted (living P.expiry_of P.with_expiry_of now self.now.cache.time_to_live properties))

@@ -57,7 +57,8 @@ where
     ) -> Result<Replaced<RawCacheEntry<H, E, K, V, S, P, W, A, L, Q, T::Required, I>>>
         requires clones { (k c : K) → K.is_clone k c → K.eq c k ≡ true }
         ensures given { IfInserted result (λ e. (e.kept.key ≡ key) × (e.kept.value ≡ value)) }
-        ensures hash { IfInserted result (λ e. e.kept.hash ≡ S.hash_of (arc_value (arc_value (arc_value self.now.shares.shared).shared).hash_builder) (K.hash_input key)) }
+        ensures hash { let shared = arc_value (arc_value self.now.shares.shared).shared in
+            IfInserted result (λ e. e.kept.hash ≡ S.hash_of (arc_value shared.hash_builder) (K.hash_input key)) }
         ensures judged { let shared = arc_value (arc_value self.now.shares.shared).shared in
             IfInserted result (λ e. Judges (W.weighs shared.rules.weighter key value) (A.admits shared.rules.filter key value)
             (λ admitted. coming_in P.location_of P.with_phantom_of admitted (living P.expiry_of P.with_expiry_of now self.now.time_to_live properties))
@@ -105,7 +106,8 @@ where
     ) -> Result<Option<RawCacheEntry<H, E, K, V, S, P, W, A, L, Q, T::Required, I>>>
         requires clones { (k c : K) → K.is_clone k c → K.eq c k ≡ true }
         ensures given { IfOk result (λ made. IfSome made (λ e. (e.kept.key ≡ key) × (e.kept.value ≡ value))) }
-        ensures hash { IfOk result (λ made. IfSome made (λ e. e.kept.hash ≡ S.hash_of (arc_value (arc_value (arc_value self.now.shares.shared).shared).hash_builder) (K.hash_input key))) }
+        ensures hash { let shared = arc_value (arc_value self.now.shares.shared).shared in
+            IfOk result (λ made. IfSome made (λ e. e.kept.hash ≡ S.hash_of (arc_value shared.hash_builder) (K.hash_input key))) }
         ensures judged { let shared = arc_value (arc_value self.now.shares.shared).shared in
             IfOk result (λ made. IfSome made (λ e. Judges (W.weighs shared.rules.weighter key value) (A.admits shared.rules.filter key value)
             (λ admitted. coming_in P.location_of P.with_phantom_of admitted (living P.expiry_of P.with_expiry_of now self.now.time_to_live properties))

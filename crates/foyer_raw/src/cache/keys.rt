@@ -44,7 +44,8 @@ where
     // A key with its hash.
     #[inline(always)]
     pub(super) fn hashed<'a>(&self, key: &'a K) -> Hashed<'a, K>
-        ensures hash { result.0 ≡ S.hash_of (arc_value (arc_value (arc_value self.now.shares.shared).shared).hash_builder) (K.hash_input key.now) }
+        ensures hash { let shared = arc_value (arc_value self.now.shares.shared).shared in
+            result.0 ≡ S.hash_of (arc_value shared.hash_builder) (K.hash_input key.now) }
         ensures key { result.1 ≡ key.now }
     {
         Hashed::new(self.hash(key), key)

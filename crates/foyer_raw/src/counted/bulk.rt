@@ -42,7 +42,8 @@ impl<E: Eviction, K: Key, V: Value, P: Properties, R: Drop, I: Finder<K>> Counte
     /// # Errors
     /// F7 if memory runs out; nothing has changed.
     pub fn clear(&mut self, leaves: &mut Vec<Leave<K, V, P>>) -> Result<()>
-        ensures done { OnOk result (GoesOn leaves.old.items leaves.new.items (λ ls. Clears (meaning_of self.old.shard) (state_of self.old.shard) ls (state_of self.new.shard))) }
+        ensures done { OnOk result (GoesOn leaves.old.items leaves.new.items
+            (λ ls. Clears (meaning_of self.old.shard) (state_of self.old.shard) ls (state_of self.new.shard))) }
         ensures err { OnErr result ((state_of self.new.shard ≡ state_of self.old.shard) × (leaves.new.items ≡ leaves.old.items)) }
         ensures memory { IfErr result (λ e. e ≡ NoMemory) }
         ensures opens { opens_of self.new.shard ≡ opens_of self.old.shard }

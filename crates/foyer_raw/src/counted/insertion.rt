@@ -93,7 +93,8 @@ impl<E: Eviction, K: Key, V: Value, P: Properties, R: Drop, I: Finder<K>> Counte
         requires none { later.old ≡ None }
         requires untold { IsUntold leaves.old }
         ensures puts { IfNone later.new (MatchResult result
-            (λ last. Puts (meaning_of self.old.shard) now.0 (state_of self.old.shard) (newcomer (state_of self.old.shard) kept 1) (told_of leaves.new) last (state_of self.new.shard))
+            (λ last. Puts (meaning_of self.old.shard) now.0 (state_of self.old.shard) (newcomer (state_of self.old.shard) kept 1) (told_of leaves.new)
+            last (state_of self.new.shard))
             (λ error. RefusesInsert (at_moment now.0 (meaning_of self.old.shard)) (state_of self.old.shard)
             (newcomer (state_of self.old.shard) kept 1) error (told_of leaves.new) (state_of self.new.shard))) }
         ensures counts { IfNone later.new (self.new.stats ≡ leaves_counted P.phantom_of P.expiry_of now.0 (told_of leaves.new)
@@ -213,7 +214,8 @@ impl<E: Eviction, K: Key, V: Value, P: Properties, R: Drop, I: Finder<K>> Counte
         ensures first { result ≢ NoMemory → (value : V) → RefusesInsert (meaning_of self.old.shard) (state_of self.old.shard)
             (newcomer (state_of self.old.shard) (record { key = key.now; value = value; properties = properties.now; hash = hash; weight = weight })
             (1 + waiting_for (opens_of self.old.shard) (hash, key.now))) result [] (state_of self.old.shard) }
-        ensures memory { result ≡ NoMemory → (value : V) → MayBy (meaning_of self.old.shard) (is_phantom (P.phantom_of properties.now)) (state_of self.old.shard)
+        ensures memory { result ≡ NoMemory → (value : V) → MayBy (meaning_of self.old.shard) (is_phantom (P.phantom_of properties.now))
+            (state_of self.old.shard)
             (newcomer (state_of self.old.shard) (record { key = key.now; value = value; properties = properties.now; hash = hash; weight = weight })
             (1 + waiting_for (opens_of self.old.shard) (hash, key.now))) }
         ensures rest { (self.new.shard ≡ self.old.shard) × (self.new.stats ≡ counted Refused self.old.stats) }

@@ -228,7 +228,8 @@ impl<E: Eviction, K: Key, V: Value, P: Properties, R: Drop, I: Finder<K>> Counte
     #[tactic(auto, using(crate::proofs::CountLemmas::leaves_counted_one))]
     pub fn remove_piece(&mut self, piece: &Piece<K, V, P>) -> Option<Left<K, V, P>>
         ensures resident { is_some result ≡ is_resident (state_of self.old.shard) piece.now }
-        ensures removed { IfSome result (λ left. TakesRecordOut (meaning_of self.old.shard) (state_of self.old.shard) piece.now.id left (state_of self.new.shard)) }
+        ensures removed { IfSome result (λ left. TakesRecordOut (meaning_of self.old.shard) (state_of self.old.shard) piece.now.id left
+            (state_of self.new.shard)) }
         ensures none { IfNone result (state_of self.new.shard ≡ state_of self.old.shard) }
         ensures opens { opens_of self.new.shard ≡ opens_of self.old.shard }
         ensures counts { self.new.stats ≡ leaves_counted P.phantom_of P.expiry_of FIRST (taken_out result) self.old.stats }
