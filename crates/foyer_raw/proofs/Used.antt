@@ -9,6 +9,7 @@ use Rattle.foyer_policy.specs.declared.types.Event.TheVariants.{Evict}
 use Rattle.foyer_policy.specs.declared.types.Source.TheVariants.{Outer}
 use Rattle.foyer_policy.specs.declared.error.Reason.{Reason}
 use Rattle.foyer_policy.specs.Properties.{is_phantom}
+use Rattle.foyer_core.specs.Bulk.{GoesOn}
 use Rattle.foyer_core.specs.Inflight.{Opens, closed, waiters_of}
 use Rattle.foyer_core.specs.NoEntry.{PutsAnswering, last_of}
 use Rattle.foyer_core.specs.State.{Meaning, State, IsKept, handles_in, handles_of, is_phantom_record, key_of}
@@ -76,6 +77,11 @@ module _ {K V P View C : Type 0} (m : Meaning K P View C) (laws : IsEquivalence 
       let is : gets.0.handles + 1 ≡ 0 = sym (ap handles_of there) ∙ without in
       omega (arith, is)
       )
+
+-- what goes on from nothing
+pub from_nothing : {K V P : Type 0} (old new : List (Event × Gone K V P)) (So : List (Event × Gone K V P) → Type 0)
+    → old ≡ [] → GoesOn old new So → So new
+from_nothing old new So none went = subst So (sym (went.told ∙ ap (λ (l : List _). l ++ went.more) none)) went.so
 
 -- nothing was told
 pub nothing_told : {K V P : Type 0} (l : Leaves K V P) → IsUntold l → told_of l ≡ []

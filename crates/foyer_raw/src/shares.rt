@@ -12,7 +12,7 @@ use crate::pipe::Pipe;
 use crate::stripes::Stripe;
 use crate::ticket::{Answer, Notifier, Ticket, Waiters, refuse};
 use foyer_core::{Answers, CoreEntry, Ended, Finder, Leave, Left, Piece};
-use foyer_policy::{EventListener, Eviction, Key, Properties, Result, Value};
+use foyer_policy::{Error, EventListener, Eviction, Key, Properties, Result, Value};
 use std::sync::{Arc, MutexGuard, Wait};
 
 mod ending;
@@ -172,6 +172,13 @@ where
         } = ended;
         self.answer(answers);
         self.tell_all(leaves);
+    }
+
+    // Ends a fetch with an error.
+    pub(crate) fn end(&self, fetch: Fetch, key: &K, error: Error) {
+        let (key, alloc) = (fetch.hashed(key), self.shared.shards.alloc);
+        let ended = self.of(&key).end(alloc, key, fetch.id, error);
+        self.ended(ended);
     }
 
     // Hands handles of one record out, one to each who waited, and none where there is none left.

@@ -64,10 +64,8 @@ where
 
     // Ends a fetch with a fault.
     pub(crate) fn fail(&self, fetch: Fetch, key: &K, fault: Fault) {
-        let (key, error) = (fetch.hashed(key), self.refusal(fault));
-        let alloc = self.shared.shards.alloc;
-        let ended = self.of(&key).end(alloc, key, fetch.id, error);
-        self.ended(ended);
+        let error = self.refusal(fault);
+        self.end(fetch, key, error);
     }
 
     // The refusal of a fault, which all who wait share.

@@ -12,7 +12,7 @@ use crate::proved::foyer_raw::pipe::Pipe;
 use crate::proved::foyer_raw::stripes::Stripe;
 use crate::proved::foyer_raw::ticket::{Answer, Notifier, Ticket, Waiters, refuse};
 use crate::proved::foyer_core::{Answers, CoreEntry, Ended, Finder, Leave, Left, Piece};
-use crate::proved::foyer_policy::{EventListener, Eviction, Key, Properties, Result, Value};
+use crate::proved::foyer_policy::{Error, EventListener, Eviction, Key, Properties, Result, Value};
 use crate::rattle_std::sync::{Arc, MutexGuard, Wait};
 
 mod ending;
@@ -149,6 +149,14 @@ where
         } = ended;
         self.answer(answers);
         self.tell_all(leaves);
+    }
+
+    // Ends a fetch with an error.
+    #[inline]
+    pub(crate) fn end(&self, fetch: Fetch, key: &K, error: Error) {
+        let (key, alloc) = (fetch.hashed(key), self.shared.shards.alloc);
+        let ended = self.of(&key).end(alloc, key, fetch.id, error);
+        self.ended(ended);
     }
 
     // Hands handles of one record out, one to each who waited, and none where there is none left.

@@ -1,4 +1,3 @@
-use Rattle.std.proofs.Common.{rules}
 use Rattle.foyer_raw.proofs.Faultless.{faultless}
 use Rattle.foyer_raw.proofs.cache.RawCache.new.Goals as goal
 

@@ -1,16 +1,9 @@
-use Rattle.std.proofs.Common.{◌+◌, ◌∙◌, ap, inl, inr, rules, vec_len, Some}
+use Rattle.std.proofs.Common.{◌∙◌, inl, inr, rules, Some}
 use Rattle.std.specs.Prelude.{Ok, Err}
-use Rattle.foyer_policy.specs.Properties.{is_phantom}
-use Rattle.foyer_core.specs.NoEntry.{PutsAnswering, last_of}
 use Rattle.foyer_core.specs.Shards.{state_of, meaning_of, opens_of}
-use Rattle.foyer_core.specs.State.{key_of}
-use Rattle.foyer_core.specs.Stats.{counted}
-use Rattle.foyer_core.specs.Steps.{Gets, newcomer}
-use Rattle.foyer_core.specs.Waited.{waiting_for}
-use Rattle.foyer_core.specs.declared.stats.Counted.TheVariants.{Refused}
+use Rattle.foyer_core.specs.Steps.{Gets}
 use Rattle.foyer_core.proofs.StoredLemmas.{err_is}
 use Rattle.foyer_raw.specs.Conditional.{IsAgain, SetsExpiry}
-use Rattle.foyer_raw.specs.Counts.{leaves_counted, put_counted}
 use Rattle.foyer_raw.specs.Told.{told_of}
 use Rattle.foyer_raw.proofs.Used.{nothing_told, puts_again, used}
 use Rattle.foyer_raw.proofs.counted.CountedShard.set_expires.Goals as goal

@@ -152,10 +152,7 @@ where
             return;
         }
         if let Some(key) = key {
-            let (key, error) = (fetch.hashed(&key), Error::new(Reason::TaskCancelled));
-            let alloc = shares.shared.shards.alloc;
-            let ended = shares.of(&key).end(alloc, key, fetch.id, error);
-            shares.ended(ended);
+            shares.end(fetch, &key, Error::new(Reason::TaskCancelled));
         }
     }
 }
