@@ -1,5 +1,5 @@
 -- How events follow one another.
-use Rattle.std.proofs.Common.{◌≡◌, ◌≢◌, ℕ, ◌+◌, ◌≤◌, Bool, true, false, List, [], ◌∷◌, ◌++◌, length, refl, sym, ◌∙◌, ap, subst, arith, length-append, rules}
+use Rattle.std.proofs.Common.{◌≡◌, ◌≢◌, ℕ, ◌+◌, ◌≤◌, Bool, List, [], ◌∷◌, ◌++◌, refl, sym, ◌∙◌, ap, arith, length-append}
 use Rattle.foyer_raw.specs.declared.fetch.state.RawFetchState.{RawFetchState}
 use Rattle.foyer_raw.specs.declared.fetch.state.RawFetchState.TheVariants.{Init}
 use Rattle.foyer_raw.specs.declared.fetch.state.TaskEvent.{TaskEvent}

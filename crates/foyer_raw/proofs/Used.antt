@@ -14,7 +14,7 @@ use Rattle.foyer_core.specs.Inflight.{Opens, closed, waiters_of}
 use Rattle.foyer_core.specs.NoEntry.{PutsAnswering, last_of}
 use Rattle.foyer_core.specs.State.{Meaning, State, IsKept, handles_in, handles_of, is_phantom_record, key_of}
 use Rattle.foyer_core.specs.Stats.{counted}
-use Rattle.foyer_core.specs.Steps.{Gets, GivesBack, after_get, entry_of, gone_of, last_leave, newcomer}
+use Rattle.foyer_core.specs.Steps.{Gets, GivesBack, entry_of, gone_of, last_leave, newcomer}
 use Rattle.foyer_core.specs.Values.{Gone, Held, Rec}
 use Rattle.foyer_core.specs.Waited.{AnswersEach, waiting_for}
 use Rattle.foyer_core.specs.declared.outcome.PutOnto.{PutOnto}
