@@ -17,7 +17,7 @@ static long granted = -1;
 static int only_one;
 static long refusals;
 static long step = 1; /* from one refused request to the next */
-static size_t bytes; /* that are in use */
+static size_t bytes;  /* that are in use */
 
 static int is_refused(void) {
     if (granted < 0)
