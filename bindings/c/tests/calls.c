@@ -115,11 +115,11 @@ static void empty_bytes(luffa_cache *cache) {
     CHECK(luffa_remove(cache, NULL, 0) == LUFFA_OK && luffa_remove(cache, "", 1) == LUFFA_OK);
 }
 
-/* Keys that agree but for one byte, of every length up to 40 and of 1 and 10 MB. */
-static void lengths(luffa_cache *cache) {
+/* Keys that agree but for one byte, of every length up to 40, and if they may be long of 1 and 10 MB. */
+static void lengths(luffa_cache *cache, int are_long) {
     static const size_t LARGE[] = {1 << 20, 10 << 20};
     luffa_entry entry;
-    for (size_t len = 1; len <= 42; len++) {
+    for (size_t len = 1; len <= (are_long ? 42 : 40); len++) {
         size_t size = len <= 40 ? len : LARGE[len - 41];
         unsigned char *bytes = malloc(size), *other = malloc(size);
         memset(bytes, (int)len, size);
@@ -524,7 +524,7 @@ int main(void) {
             luffa_cache *cache = shards == 0 ? unlocked(policy, 300) : created(policy, 300, shards);
             one_record(cache);
             empty_bytes(cache);
-            lengths(cache);
+            lengths(cache, shards == 1);
             expiry(cache);
             making(cache);
             luffa_destroy(cache);

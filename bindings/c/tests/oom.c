@@ -1,7 +1,7 @@
 /*
  * Each request for memory is refused in turn: build it with -Wl,--wrap=malloc,--wrap=realloc,--wrap=calloc,
  * --wrap=aligned_alloc,--wrap=free. Every call then returns what it may, nothing is lost, and the cache goes on. And
- * the same calls again and again keep no more memory.
+ * the same calls again and again keep no more memory. With an argument N, each Nth request is refused.
  */
 #include "check.h"
 #include <malloc.h>
@@ -16,7 +16,8 @@ void __real_free(void *block);
 static long granted = -1;
 static int only_one;
 static long refusals;
-static size_t bytes; /* that are in use */
+static long step = 1; /* from one refused request to the next */
+static size_t bytes;  /* that are in use */
 
 static int is_refused(void) {
     if (granted < 0)
@@ -324,7 +325,7 @@ static luffa_cache *filled(uint32_t policy, size_t shards, uint64_t count) {
 
 /* A cache that ends without memory tells each of its records once. */
 static void end_many(uint32_t policy, size_t shards, uint64_t count) {
-    for (long fail = 0, before = -1; refusals != before && failures == 0; fail++) {
+    for (long fail = 0, before = -1; refusals != before && failures == 0; fail += step) {
         luffa_cache *cache = filled(policy, shards, count);
         size_t entries = luffa_entries(cache), told_before = 0;
         for (uint64_t key = 0; key < count; key++)
@@ -339,7 +340,9 @@ static void end_many(uint32_t policy, size_t shards, uint64_t count) {
     }
 }
 
-int main(void) {
+int main(int count, char **words) {
+    if (count > 1)
+        step = atol(words[1]);
     for (uint32_t policy = LUFFA_FIFO; policy <= LUFFA_SIEVE; policy++) {
         key_len = policy % 2 == 0 ? 8 : LONG;
         repeat(policy);
@@ -349,7 +352,7 @@ int main(void) {
             end_many(policy, 65, SOME);
         }
         for (int how = 0; how < 4; how++)
-            for (long fail = 0, before = -1; refusals != before && failures == 0; fail++) {
+            for (long fail = 0, before = -1; refusals != before && failures == 0; fail += step) {
                 before = refusals;
                 only_one = how & 1;
                 run(policy, fail, how & 2);

@@ -106,7 +106,10 @@ class Decorator(unittest.TestCase):
             async def __call__(self) -> int:
                 return 1
 
-        for function in (waits, yields, functools.partial(waits), Waits()):
+            async def method(self) -> int:
+                return 1
+
+        for function in (waits, yields, functools.partial(functools.partial(waits)), Waits(), Waits().method):
             with self.assertRaisesRegex(TypeError, "async"):
                 cached(function)
         self.assertIsInstance(cached(Waits)(), Waits)  # to make one isn't async

@@ -168,6 +168,7 @@ class Making(unittest.TestCase):
     def test_signals_end_the_wait(self) -> None:
         lines = [
             "import os, signal, threading, luffapricot",
+            "signal.signal(signal.SIGINT, signal.default_int_handler)",  # a job in the background ignores it
             "cache, begun, may_end = luffapricot.Cache(5), threading.Event(), threading.Event()",
             "make = lambda _: (begun.set(), may_end.wait(20))",
             "interrupt = lambda: threading.Timer(0.1, lambda: os.kill(os.getpid(), signal.SIGINT)).start()",

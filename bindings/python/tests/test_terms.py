@@ -2,13 +2,15 @@
 
 from __future__ import annotations
 
+import copy
+import pickle
 import random
 import sys
 import time
 import unittest
 
 from luffapricot import Cache, Fifo, Lfu, Lru, Policy, S3Fifo, Sieve
-from support import POLICIES
+from support import POLICIES, run_alone
 
 
 class Terms(unittest.TestCase):
@@ -161,6 +163,23 @@ class Terms(unittest.TestCase):
         cache = Cache(10, ttl=1e300)
         cache["a"] = 1
         self.assertIn("a", cache)
+
+    def test_policies_are_values(self) -> None:
+        policies = [Fifo(), Lru(), Lfu(), Lfu(0.2), Lfu(protected=0.2), S3Fifo(), S3Fifo(0.2), S3Fifo(ghost=0.2), Sieve()]
+        self.assertEqual(len({*policies, *map(copy.deepcopy, policies), *pickle.loads(pickle.dumps(policies))}), len(policies))
+        self.assertEqual(repr(S3Fifo(small=0.2)), "S3Fifo(small=0.2, ghost=None, small_to_main=None)")
+        self.assertFalse(Fifo() == Lru() or Fifo() == "fifo" or S3Fifo(0.2) == (0.2, None, None))
+        for change in (lambda: setattr(S3Fifo(), "small", 1), lambda: setattr(Fifo(), "a", 1), lambda: delattr(Lfu(), "window")):
+            with self.assertRaises(AttributeError):
+                change()
+        for make in (lambda: Fifo(1), lambda: S3Fifo(large=1), lambda: S3Fifo(1, 1, 1, 1)):
+            with self.assertRaises(TypeError):
+                make()
+
+    def test_the_import_is_quick(self) -> None:
+        text = "import sys; there = {*sys.modules}; import luffapricot; luffapricot.cached(len)"
+        text += "; print({'inspect', 'dataclasses', 'ast'} & {*sys.modules} - there)"
+        self.assertEqual(run_alone(text), "set()\n")
 
     def test_policies_with_parameters(self) -> None:
         policies = [Fifo(), Lru(), Lfu(window=0.3, protected=0.5, sketch_rows=2, sketch_buckets=100), Sieve()]

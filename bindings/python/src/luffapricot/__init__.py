@@ -10,7 +10,6 @@
 from __future__ import annotations
 
 import functools
-import inspect
 import sys
 from collections.abc import ItemsView, MutableMapping, ValuesView
 from typing import Any, Callable, Iterator, NamedTuple, TypeVar, overload
@@ -58,8 +57,17 @@ class _Values(ValuesView):
         return value in list(self)
 
 
-def _is_async(function: object) -> bool:
-    return inspect.iscoroutinefunction(function) or inspect.isasyncgenfunction(function)
+# Of what a function's code returns: a coroutine, an async generator. `inspect` has names for them, and takes longer to
+# import than this package.
+_ASYNC = 0x80 | 0x200
+
+
+def _is_async(function: Any) -> bool:
+    while isinstance(function, functools.partial):
+        function = function.func
+    function = getattr(function, "__func__", function)
+    flags = getattr(getattr(function, "__code__", None), "co_flags", 0)
+    return bool(flags & _ASYNC) or hasattr(function, "_is_coroutine_mark")  # by inspect.markcoroutinefunction
 
 
 def _made_anew(kind: type[Cache], capacity: int, parameters: tuple[Any, ...], attributes: dict[str, Any]) -> Cache:
