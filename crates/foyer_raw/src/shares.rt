@@ -175,7 +175,7 @@ where
     }
 
     // Ends a fetch with an error.
-    pub(crate) fn end(&self, fetch: Fetch, key: &K, error: Error) {
+    pub(crate) fn end(&self, fetch: &Fetch, key: &K, error: Error) {
         let (key, alloc) = (fetch.hashed(key), self.shared.shards.alloc);
         let ended = self.of(&key).end(alloc, key, fetch.id, error);
         self.ended(ended);

@@ -170,7 +170,7 @@ where
             return;
         }
         if let Some(key) = key {
-            shares.end(fetch, &key, Error::new(Reason::TaskCancelled));
+            shares.end(&fetch, &key, Error::new(Reason::TaskCancelled));
         }
     }
 }

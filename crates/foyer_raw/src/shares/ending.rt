@@ -65,7 +65,7 @@ where
     // Ends a fetch with a fault.
     pub(crate) fn fail(&self, fetch: Fetch, key: &K, fault: Fault) {
         let error = self.refusal(fault);
-        self.end(fetch, key, error);
+        self.end(&fetch, key, error);
     }
 
     // The refusal of a fault, which all who wait share.

@@ -153,7 +153,7 @@ where
 
     // Ends a fetch with an error.
     #[inline]
-    pub(crate) fn end(&self, fetch: Fetch, key: &K, error: Error) {
+    pub(crate) fn end(&self, fetch: &Fetch, key: &K, error: Error) {
         let (key, alloc) = (fetch.hashed(key), self.shared.shards.alloc);
         let ended = self.of(&key).end(alloc, key, fetch.id, error);
         self.ended(ended);

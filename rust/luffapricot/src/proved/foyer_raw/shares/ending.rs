@@ -64,7 +64,7 @@ where
     #[inline]
     pub(crate) fn fail(&self, fetch: Fetch, key: &K, fault: Fault) {
         let error = self.refusal(fault);
-        self.end(fetch, key, error);
+        self.end(&fetch, key, error);
     }
 
     // The refusal of a fault, which all who wait share.
