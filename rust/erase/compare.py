@@ -60,7 +60,7 @@ OUTPUT = [
 # What goes from both.
 BOTH = [
     (r"# \[ inline \]", ""),
-    (r"& (listener|drops|rt)\b", r"\1"),
+    (r"& (listener|drops|fetch|rt)\b", r"\1"),
     (r"\b(\w+) : \1 (?=[,}])", r"\1 "),
     (r"\bwhere ((?:[^{;])*?)(?=[{;])", lambda it: predicates(it[1])),
     (r"< ((?:[^<>;{}]|<[^<>;{}]*>)*?) : Drop ", r"< \1 "),
