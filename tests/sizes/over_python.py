@@ -2,9 +2,15 @@
 but that of what left it says only the values, in their order as text. It knows no lines for phantoms, uses, bulk evictions
 and fetches. A handle is a number alone: whatever a script looks up it has to drop at once.
 
+over_python.py SOCKET does so for each connection to a socket that it makes, whose first line has these words: a process that
+has imported all is forked in less time than Python takes to begin.
+
 A key's hash in the cache is the key: how the extension mixes hashes is turned round here. The time is clock.c's."""
 import ctypes
+import os
 import re
+import signal
+import socket
 import sys
 
 from luffapricot import Cache, Error
@@ -108,9 +114,32 @@ class Sim:
         return getattr(self, name)(*map(int, numbers))
 
 
+def words_of_connection(path):
+    """Waits for connections to a socket, and for each returns its words in a process whose streams are the connection's. How
+    that process ends is written behind what it wrote, unless it ends well."""
+    signal.signal(signal.SIGCHLD, signal.SIG_IGN)  # nobody asks how those end that wait for scripts
+    server = socket.socket(socket.AF_UNIX)
+    server.bind(f"{path}.new")
+    server.listen()
+    os.rename(f"{path}.new", path)
+    while True:
+        connection, _ = server.accept()
+        if os.fork() == 0:
+            signal.signal(signal.SIGCHLD, signal.SIG_DFL)
+            ran = os.fork()
+            if ran == 0:
+                for it in range(3):
+                    os.dup2(connection.fileno(), it)
+                return sys.stdin.readline().split()
+            status = os.waitstatus_to_exitcode(os.waitpid(ran, 0)[1])
+            connection.sendall(f"ended with {status}\n".encode() if status else b"")
+            os._exit(0)
+        connection.close()
+
+
 def main():
-    sim = Sim(*sys.argv[1:])
-    for line in sys.stdin:
+    sim = Sim(*(words_of_connection(sys.argv[1]) if sys.argv[2:] == [] else sys.argv[1:]))
+    for line in sys.stdin.readlines():  # a socket has no room for all replies while lines are sent
         words = [it for it in line.rstrip("\n").split(" ") if it]
         if not words:
             continue
