@@ -268,11 +268,13 @@ def references_are_marked(program):
 
 @case
 def references_behind_a_warmup(program):
-    keys = some_keys(3000, 250)
-    rows = program.rows("-", "--policy", "arc,lru-curve", "--size", "40", "--warmup", "1000", data=lines(keys).encode())
-    before = hits_of("arc", 40, [("get", key) for key in keys[:1000]])
+    """The warmup ends behind the first of the program's own parts."""
+    keys, warm = some_keys(70_000, 250), 67_000
+    words = ["--policy", "arc,lru-curve", "--size", "40", "--warmup", warm]
+    rows = program.rows("-", *words, data=lines(keys).encode())
+    before = hits_of("arc", 40, [("get", key) for key in keys[:warm]])
     assert int(rows[0]["hits"]) == hits_of("arc", 40, [("get", key) for key in keys]) - before, rows
-    assert int(rows[1]["hits"]) == model(keys, 40, True) - model(keys[:1000], 40, True), rows
+    assert int(rows[1]["hits"]) == model(keys, 40, True) - model(keys[:warm], 40, True), rows
 
 
 @case

@@ -140,6 +140,13 @@ def each_part_once(program):
     for name in ("other.csv", "lives.csv", "shards.csv", "warm.csv"):
         said = f"{name}: line 2: expected a run of the same trace with the same options"
         program.fails(1, said, "--merge", "p1.csv", "p2.csv", name)
+    rows = ["1,1,5,get,9", "2,1,5,get,9", "3,2,5,get,9", "4,1,5,get,9", "5,2,5,get,9"]
+    for number, row in enumerate([rows[2], "6,2,5,get,9", "3,2,7,get,9", "3,2,5,set,9", "3,2,5,get,8"]):
+        name = program.put("t.csv", "time,key,size,op,ttl\n" + "\n".join([*rows[:2], row, *rows[3:]]))
+        program.call(name, "--policy", "lru", "--size", "4", "--part", "1/2" if row is rows[2] else "2/2", "--csv", f"t{number}.csv")
+        if number:
+            said = f"t{number}.csv: line 2: expected a run of the same trace"
+            program.fails(1, said, "--merge", "t0.csv", f"t{number}.csv")
     program.call("k.keys", *words, "--csv", "whole.csv")
     program.fails(1, "is there twice", "--merge", "whole.csv", "whole.csv")
     program.call("--merge", "p1.csv", "p2.csv", "p3.csv", "--csv", "merged.csv")

@@ -274,13 +274,20 @@ def names_are_escaped(program):
 
 @case
 def table_marks_the_least(program):
-    said = program.call(TRACES / "sqlite.keys", "--policy", "all,belady", "--quiet")[1]
-    rows = {it.split()[0]: it.split()[1:] for it in said.split("\n\n")[1].splitlines()[2:]}
-    assert set(rows) == {"fifo", "lru", "lfu", "s3fifo", "sieve", "belady"}
-    for column in range(6):
-        ratios = {name: row[column] for name, row in rows.items() if name != "belady"}
-        least = min(float(it.rstrip("*")) for it in ratios.values())
-        assert all(it.endswith("*") == (float(it.rstrip("*")) == least) for it in ratios.values()), ratios
+    """The least of each column but Belady's has a star, in the table of bytes too, and is bold in the page."""
+    for trace, count in (("build.csv", 2), ("sqlite.keys", 1)):
+        said = program.call(TRACES / trace, "--policy", "all,belady", "--quiet", "--html", "l.html")[1]
+        tables = said.split("\n\n")[1 : 1 + count]
+        for table in tables:
+            rows = {it.split()[0]: it.split()[1:] for it in table.splitlines()[2:]}
+            assert set(rows) == {"fifo", "lru", "lfu", "s3fifo", "sieve", "belady"}
+            for column in range(6):
+                ratios = {name: row[column] for name, row in rows.items() if name != "belady"}
+                least = min(float(it.rstrip("*")) for it in ratios.values())
+                assert all(it.endswith("*") == (float(it.rstrip("*")) == least) for it in ratios.values()), ratios
+        cells = re.findall(r"<td>(<b>)?([0-9.]+)(?:</b>)?</td>", (program.folder / "l.html").read_text())
+        shown = [it for table in tables for line in table.splitlines()[2:] for it in line.split()[1:]]
+        assert [ratio + "*" * bool(bold) for bold, ratio in cells] == shown, (cells, shown)
     assert "seconds" not in said and " a second" not in said
     assert "million requests a second" in program.call(TRACES / "sqlite.keys", "--policy", "fifo")[1]
 

@@ -73,6 +73,10 @@ def the_least_size_is_recommended(program):
     assert "recommend: no size here has a miss ratio of 0.01 or less; the least is" in said
     assert f"{float(least['miss_ratio']):.4f}, of {least['policy']} with 529 records" in said, said
     assert "recommend" not in program.call(*words)[1]
+    words = [name, "--policy", "fifo", "--sample", "0.5", "--quiet"]
+    twice = program.rows(*words[:-1], "--size", "800")[0]
+    said = program.call(*words, "--size", "400", "--target", "0.9")[1]
+    assert f"; with 800 records {float(twice['miss_ratio']):.4f}\n" in said, (said, twice)
     for word in ("2", "1.5", "-1", "x"):
         program.fails(2, "--target must be a miss ratio" if word != "-1" else "'-1'", name, "--target", word)
 

@@ -542,3 +542,70 @@ fn a_hasher_that_panics_leaves_no_fetch_of_a_piece_open() {
         }
     }
 }
+
+#[test]
+fn if_a_maker_panics_or_a_fetch_fails_one_of_the_others_calls_its_own() {
+    let cache: Cache<u64, u64> = Cache::<u64, u64>::builder(10).build();
+    let (begun, waiting, made) = (Barrier::new(2), AtomicUsize::new(0), AtomicUsize::new(0));
+    let seven = |key: u64| {
+        std::thread::scope(|scope| {
+            let one = || {
+                waiting.fetch_add(1, SeqCst);
+                *cache.get_or_insert_with(&key, || made.fetch_add(1, SeqCst) as u64)
+            };
+            let all: Vec<_> = (0..7).map(|_| scope.spawn(one)).collect();
+            all.into_iter().map(|thread| thread.join().unwrap()).collect::<Vec<_>>()
+        })
+    };
+    // All seven are in their call by then, and most of them wait.
+    let wait_for_all = || {
+        while waiting.load(SeqCst) < 7 {
+            std::thread::yield_now();
+        }
+        std::thread::sleep(Duration::from_millis(20));
+    };
+    std::thread::scope(|scope| {
+        let first = scope.spawn(|| {
+            let make = || {
+                begun.wait();
+                wait_for_all();
+                panic!("boom: no page")
+            };
+            thrown(|| drop(cache.get_or_insert_with(&1, make)))
+        });
+        begun.wait();
+        assert_eq!(seven(1), [0; 7]);
+        assert_eq!(first.join().unwrap().unwrap_err(), "boom: no page");
+    });
+    waiting.store(0, SeqCst);
+    std::thread::scope(|scope| {
+        let lead = cache.get_or_fetch(&2, || async { Err::<u64, _>("none") });
+        scope.spawn(move || {
+            wait_for_all();
+            drop(lead);
+        });
+        assert_eq!(seven(2), [1; 7]);
+    });
+}
+
+#[test]
+fn a_panic_of_a_drop_behind_a_closures_panic_does_not_come_later() {
+    for is_retain in [false, true] {
+        let world = World::new();
+        let cache = store(&world, FifoConfig {}.into(), 30, 1);
+        drop(cache.insert(world.key(1), world.value()));
+        world.arm(Site::DropValue, 1);
+        // The closure's own panic goes on, and what it removed is dropped after that.
+        let delete = |key: &Name, _: &Page| -> bool {
+            assert!(cache.delete(key));
+            panic!("boom: the closure")
+        };
+        let call = || if is_retain { cache.retain(delete) } else { cache.for_each(|key, value| assert!(delete(key, value))) };
+        assert_eq!(thrown(call).unwrap_err(), "boom: the closure");
+        assert_eq!(world.thrown.load(SeqCst), 1);
+        drop(cache.insert(world.key(2), world.value()));
+        assert!(cache.contains(&world.key(2)));
+        drop(cache);
+        assert_eq!(world.live.load(SeqCst), 0);
+    }
+}

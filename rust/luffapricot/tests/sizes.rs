@@ -325,3 +325,57 @@ fn a_fetch_or_maker_that_began_before_anything_expired_evicts_what_has_expired_f
     });
     assert_eq!(it.left(), all(Event::Evict, [2]));
 }
+
+#[test]
+fn each_insert_and_flush_evicts_what_has_expired_first() {
+    type Call = fn(&Watched, Piece<u64, u64, CacheProperties>);
+    let inserts: [Call; 6] = [
+        |it, _| drop(it.cache.insert(3, 3)),
+        |it, _| it.cache.put(3, 3),
+        |it, piece| drop(it.cache.insert_piece(piece)),
+        |it, _| drop(it.cache.insert_if_fits(3, 3)),
+        |it, _| drop(it.cache.replace_if(None, 3, 3)),
+        |it, _| drop(block_on(it.cache.get_or_fetch(&3, || async { Ok::<_, Error>(3) }))),
+    ];
+    for start in [0, 1 << 32, 1 << 48, 1 << 63] {
+        let made = || {
+            let it = Watched::new(2, 1, FifoConfig {});
+            it.at(start);
+            it.cache.put(1, 1);
+            it.cache.put_with_properties(2, 2, nanoseconds(10));
+            it.at(start + 10);
+            it
+        };
+        let other = Watched::new(1, 1, FifoConfig {});
+        for (at, insert) in inserts.iter().enumerate() {
+            let it = made();
+            insert(&it, other.cache.insert(3, 3).piece());
+            assert_eq!((it.left(), it.cache.get_cloned(&3)), (all(Event::Evict, [2]), Some(3)), "{at} at {start}");
+        }
+        let it = made();
+        assert!(it.cache.set_time_to_live(&1, Some(Duration::from_nanos(10))));
+        assert_eq!(it.left(), [(Event::Evict, 2), (Event::Replace, 1)]);
+        let it = made();
+        block_on(it.cache.flush());
+        assert_eq!(it.left(), all(Event::Evict, [2, 1]));
+    }
+}
+
+#[test]
+fn weights_past_2_to_the_63_are_exact_and_their_sum_is_at_most_the_greatest() {
+    let builder = CacheBuilder::new(usize::MAX).with_shards(2).with_eviction_config(FifoConfig {});
+    let it = Watched::of(builder.with_weighter(|_, value| *value as usize));
+    assert_eq!(it.cache.capacity(), usize::MAX);
+    for weight in [1, (1 << 32) + 1, (1 << 62) - 9] {
+        it.cache.put(weight << 1, weight);
+    }
+    assert_eq!((it.cache.usage(), it.left()), ((1 << 62) + (1 << 32) - 7, vec![]));
+    let heaviest = it.cache.insert(1, u64::MAX);
+    assert_eq!((heaviest.weight(), it.cache.usage(), it.cache.entries(), it.left()), (usize::MAX, usize::MAX, 4, vec![]));
+    let next = it.cache.insert(3, (1 << 63) - 1);
+    assert_eq!((next.weight(), it.left()), ((1 << 63) - 1, all(Event::Evict, [1])));
+    assert_eq!(it.cache.usage(), (1 << 63) - 1 + (1 << 62) + (1 << 32) - 7);
+    it.cache.resize(usize::MAX >> 1).unwrap();
+    assert_eq!((it.cache.capacity(), it.cache.usage()), (usize::MAX >> 1, (1 << 62) - 9));
+    assert_eq!(it.left(), all(Event::Evict, [2, (1 << 33) + 2, 3]));
+}

@@ -22,11 +22,11 @@ where
     /// Returns an entry of the key's record; if there is none, makes the value and inserts it.
     ///
     /// If several callers miss the same key, one calls its closure, with no lock held, and the others block until it is
-    /// done. If that panics, one of the others calls its own. The closure may use the cache under other keys; **one that
-    /// waits for its own key never returns**.
+    /// done. If that panics, or the key's open fetch fails, one of the others calls its own. The closure may use the cache
+    /// under other keys; **one that waits for its own key never returns**.
     ///
     /// # Panics
-    /// If the closure panics, memory runs out or a count is full; or if a fetch of another caller for the key fails.
+    /// If the closure panics, memory runs out or a count is full.
     pub fn get_or_insert_with<Q>(&self, key: &Q, make: impl FnOnce() -> V) -> CacheEntry<K, V, S, P>
     where
         Q: Hash + Equivalent<K> + ?Sized + ToOwned<Owned = K>,
