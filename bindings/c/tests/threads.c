@@ -181,8 +181,13 @@ static void *work(void *context) {
                 wrong +=
                     luffa_insert(cache, 0, &key, sizeof key, &value, write_value(&value, key, noise), 1, 0) != LUFFA_OK;
         } else if (call < 700) {
+            luffa_entry *old = &held[noise % HELD];
+            if (old->shard != NULL && call % 8 == 0) { /* again, after the record has left */
+                wrong += luffa_remove_this(old) > LUFFA_MISSING;
+                wrong += luffa_remove_this(old) != LUFFA_MISSING;
+            }
             if (luffa_get_entry(cache, 0, &key, sizeof key, &entry) == LUFFA_OK)
-                hold(&held[noise % HELD], entry, key);
+                hold(old, entry, key);
         } else if (call < 900) {
             key &= ~1u;
             luffa_entry *wanted = noise % 4 == 0 ? NULL : &entry;
@@ -207,10 +212,6 @@ static void *work(void *context) {
             key = noise % 2 == 0 ? key : KEYS + noise % 300;
             luffa_status status = luffa_set_expires(cache, 0, &key, sizeof key, noise);
             wrong += status != LUFFA_OK && status != LUFFA_MISSING;
-            if (luffa_remove_entry(cache, &key, sizeof key, &entry) == LUFFA_OK) {
-                wrong += luffa_remove_this(&entry) != LUFFA_MISSING;
-                luffa_release(&entry);
-            }
         } else if (call < 991) {
             uint32_t count = 0;
             if (noise % 2 == 0)
