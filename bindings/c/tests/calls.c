@@ -12,6 +12,8 @@ static void creating(void) {
     CHECK(luffa_create(&config, &cache) == LUFFA_NO_SHARDS && cache == NULL);
     config.shards = SIZE_MAX;
     CHECK(luffa_create(&config, &cache) == LUFFA_NO_MEMORY && cache == NULL);
+    for (config.shards = (size_t)1 << 57; config.shards != 0; config.shards <<= 1) /* their bytes would wrap to 0 */
+        CHECK(luffa_create(&config, &cache) == LUFFA_NO_MEMORY && cache == NULL);
     config.shards = 1;
     config.policy.high_priority_pool.den = 0;
     CHECK(luffa_create(&config, &cache) == LUFFA_ZERO_DENOMINATOR && cache == NULL);
@@ -191,9 +193,18 @@ static void entries(uint32_t policy) {
     luffa_destroy(cache); /* with an entry that is held, which is not to be used any more */
 }
 
+/* Makes a value of this weight. */
+static int make_heavy(void *context, const void *key, size_t key_len, luffa_made *made) {
+    made->value = key;
+    made->value_len = key_len;
+    made->weight = *(size_t *)context;
+    return 0;
+}
+
 static void weights(uint32_t policy) {
     luffa_cache *cache = created(policy, 10, 1);
     luffa_entry held;
+    size_t one = 1;
     CHECK(luffa_insert(cache, 0, "a", 1, "x", 1, 4, 0) == LUFFA_OK);
     CHECK(luffa_insert(cache, 0, "b", 1, "x", 1, 6, 0) == LUFFA_OK && luffa_usage(cache) == 10);
     CHECK(luffa_insert(cache, 0, "c", 1, "x", 1, 1, 0) == LUFFA_OK && luffa_usage(cache) <= 10);
@@ -204,7 +215,8 @@ static void weights(uint32_t policy) {
         CHECK(luffa_insert(cache, 0, "h", 1, "x", 1, SIZE_MAX, 0) == LUFFA_OK);
         CHECK(luffa_get_entry(cache, 0, "h", 1, &held) == LUFFA_OK);
         CHECK(luffa_insert(cache, 0, "i", 1, "x", 1, 1, 0) == LUFFA_WEIGHT);
-        CHECK(luffa_contains(cache, 0, "i", 1) == LUFFA_MISSING);
+        CHECK(luffa_get_or_insert(cache, 0, "i", 1, make_heavy, &one, NULL) == LUFFA_WEIGHT);
+        CHECK(luffa_contains(cache, 0, "i", 1) == LUFFA_MISSING && luffa_entries(cache) == 1);
         luffa_release(&held);
     }
     luffa_destroy(cache);
@@ -352,15 +364,6 @@ static int make_nothing(void *context, const void *key, size_t key_len, luffa_ma
     return *(const char *)key == 'f';
 }
 
-/* Makes a value that weighs 2. */
-static int make_heavy(void *context, const void *key, size_t key_len, luffa_made *made) {
-    (void)context;
-    made->value = key;
-    made->value_len = key_len;
-    made->weight = 2;
-    return 0;
-}
-
 static int make_and_insert(void *context, const void *key, size_t key_len, luffa_made *made) {
     made->value = "made";
     made->value_len = 4;
@@ -390,9 +393,10 @@ static void making(luffa_cache *cache) {
     luffa_release(&entry);
     CHECK(luffa_get_or_insert(cache, 0, "fails", 5, make_nothing, &runs, NULL) == LUFFA_CANCELLED && runs == 2);
     CHECK(luffa_clear(cache) == LUFFA_OK);
-    CHECK(luffa_get_or_insert(cache, 0, "heavy", 5, make_heavy, NULL, &entry) == LUFFA_OK && entry.weight == 2);
+    size_t heavy = ((size_t)1 << 40) + 2;
+    CHECK(luffa_get_or_insert(cache, 0, "heavy", 5, make_heavy, &heavy, &entry) == LUFFA_OK && entry.weight == heavy);
     luffa_release(&entry);
-    CHECK(luffa_usage(cache) == 2 && luffa_clear(cache) == LUFFA_OK);
+    CHECK(luffa_usage(cache) == heavy && luffa_clear(cache) == LUFFA_OK);
 }
 
 /* Makes a value when it is 100. */

@@ -340,12 +340,26 @@ static void end_many(uint32_t policy, size_t shards, uint64_t count) {
     }
 }
 
+/* A call that finds a record of which nobody was told tells it first, and then does all that it is to do. */
+static void tell_first(uint32_t policy, int is_making) {
+    luffa_cache *cache = filled(policy, 1, SOME);
+    int is_made = 0;
+    if (is_making)
+        CHECK(luffa_get_or_insert(cache, 0, spelled(SOME), key_len, make, &is_made, NULL) == LUFFA_OK && is_made);
+    CHECK(luffa_clear(cache) == LUFFA_OK && luffa_entries(cache) == 0);
+    for (uint64_t key = 0; key < SOME + (uint64_t)is_making; key++)
+        CHECK(heard[key] == 1);
+    luffa_destroy(cache);
+}
+
 int main(int count, char **words) {
     if (count > 1)
         step = atol(words[1]);
     for (uint32_t policy = LUFFA_FIFO; policy <= LUFFA_SIEVE; policy++) {
         key_len = policy % 2 == 0 ? 8 : LONG;
         repeat(policy);
+        tell_first(policy, 0);
+        tell_first(policy, 1);
         for (only_one = 0; only_one < 2; only_one++) {
             end_many(policy, 1, MANY);
             end_many(policy, 17, SOME);

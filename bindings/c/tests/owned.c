@@ -67,6 +67,23 @@ static void one_value(uint32_t policy) {
     CHECK(freed[10] == 1 && freed[11] == 1);
 }
 
+/* A value with more entries than 16 bits count is freed with the last of them. */
+static void entries_of_one(void) {
+    enum { MANY = 70000 };
+    static luffa_entry entries[MANY];
+    const uint64_t key = 1;
+    begin(created(LUFFA_LRU, 10, 1));
+    CHECK(add(key, 0, NULL) == LUFFA_OK);
+    for (size_t i = 0; i < MANY; i++)
+        CHECK(luffa_get_entry(cache, 0, &key, 8, &entries[i]) == LUFFA_OK);
+    CHECK(luffa_remove(cache, &key, 8) == LUFFA_OK);
+    for (size_t i = 0; i < MANY; i++) {
+        CHECK(count_freed == 0);
+        luffa_release(&entries[i]);
+    }
+    end(1);
+}
+
 /* The caller keeps a value that is refused. */
 static void refused(void) {
     const luffa_terms heavy = {.weight = SIZE_MAX};
@@ -194,5 +211,6 @@ int main(void) {
             many(policy, SHARDS[i / 2], i % 2 == 0);
     }
     refused();
+    entries_of_one();
     return ended("owned");
 }

@@ -3,7 +3,7 @@
 #include "check.h"
 #include <stdbool.h>
 
-enum { KEYS = 6000 };
+enum { KEYS = 6000, MANY = 70000 };
 
 /* The last call's departures: how many, of which event, each key once, and the first one's key. */
 struct heard {
@@ -155,6 +155,38 @@ static void holding(uint32_t policy) {
     luffa_destroy(cache);
 }
 
+/* Hears of FIFO's records, which leave in the order in which they were inserted. */
+static void hear_next(void *context, int event, const void *key, size_t key_len, const void *value, size_t value_len) {
+    uint64_t *next = context;
+    heard.wrong += event != LUFFA_EVICT || key_is_hash(NULL, key, key_len) != *next;
+    heard.wrong += value_len != 8 || memcmp(key, value, 8) != 0;
+    ++*next;
+}
+
+/* More records leave by one call than 16 bits count. */
+static void leaving(size_t capacity) {
+    luffa_config config = luffa_config_default(LUFFA_FIFO);
+    uint64_t next = 0;
+    luffa_cache *cache;
+    config.capacity = MANY;
+    config.shards = 1;
+    config.listener = hear_next;
+    config.listener_context = &next;
+    heard = (struct heard){0};
+    CHECK(luffa_create(&config, &cache) == LUFFA_OK);
+    for (uint64_t key = 0; key < MANY; key++)
+        CHECK(add(cache, 0, key, 1, 0) == LUFFA_OK);
+    CHECK(next == 0 && (capacity == 0 ? luffa_evict_all(cache, 0) : luffa_resize(cache, 0, capacity)) == LUFFA_OK);
+    CHECK(next == MANY - capacity && heard.wrong == 0 && luffa_entries(cache) == capacity);
+    CHECK(luffa_evict_all(cache, 0) == LUFFA_OK && next == MANY && heard.wrong == 0);
+    luffa_destroy(cache);
+}
+
+static int is_odd(void *context, const luffa_entry *record) {
+    ++*(uint64_t *)context;
+    return key_is_hash(NULL, record->key, record->key_len) % 2 != 0;
+}
+
 struct making {
     uint64_t now;
     uint64_t expires;
@@ -176,8 +208,39 @@ static bool made(luffa_cache *cache, uint64_t now, uint64_t key, uint64_t expire
     struct making making = {now, expires, 0};
     luffa_entry entry;
     CHECK(luffa_get_or_insert(cache, now, &key, 8, make, &making, &entry) == LUFFA_OK && making.runs <= 1);
+    CHECK(entry.value_len == 8 && memcmp(entry.key, &key, 8) == 0 && memcmp(entry.value, &key, 8) == 0);
     luffa_release(&entry);
     return making.runs == 1;
+}
+
+/* More entries are held than 16 bits count, and each call takes the record that it is to take. */
+static void holding_more(void) {
+    static luffa_entry entries[MANY];
+    luffa_cache *cache = listened(LUFFA_FIFO, 2 * MANY, 1);
+    const luffa_terms terms = {.weight = 1}, phantom = {.weight = 1, .flags = LUFFA_PHANTOM};
+    const uint64_t last = MANY - 2, other = MANY + 1;
+    uint64_t met = 0, removed = 0;
+    luffa_entry seen, next;
+    for (uint64_t key = 0; key < MANY; key++)
+        CHECK(luffa_insert_entry(cache, 0, &key, 8, &key, 8, &terms, &entries[key]) == LUFFA_OK);
+    CHECK(luffa_insert_entry(cache, 0, &other, 8, &other, 8, &phantom, &seen) == LUFFA_OK && heard.count == 1);
+    luffa_release(&seen);
+    CHECK(heard.count == 2 && heard.event == LUFFA_EVICT); /* the release was this entry's */
+    CHECK(made(cache, 0, MANY, 0) && luffa_set_expires(cache, 0, &last, 8, 9) == LUFFA_OK);
+    CHECK(luffa_get_entry(cache, 8, &last, 8, &seen) == LUFFA_OK && seen.expires == 9);
+    CHECK(luffa_replace_if(cache, 0, &seen, &last, 8, &last, 8, &terms, &next) == LUFFA_OK);
+    CHECK(luffa_remove_this(&seen) == LUFFA_MISSING && luffa_remove_this(&next) == LUFFA_OK);
+    CHECK(luffa_contains(cache, 0, &last, 8) == LUFFA_MISSING && luffa_entries(cache) == MANY);
+    luffa_release(&seen);
+    luffa_release(&next);
+    CHECK(luffa_remove_if(cache, is_odd, &met, &removed) == LUFFA_OK && met == MANY && removed == MANY / 2);
+    for (uint64_t key = 0; key < MANY; key++) {
+        CHECK(luffa_contains(cache, 0, &key, 8) == (key % 2 != 0 || key == last ? LUFFA_MISSING : LUFFA_OK));
+        CHECK(entries[key].value_len == 8 && memcmp(entries[key].value, &key, 8) == 0);
+        luffa_release(&entries[key]);
+    }
+    CHECK(luffa_entries(cache) == MANY / 2);
+    luffa_destroy(cache);
 }
 
 /* Each look-up finds a record until it expires, by all bits of the time. */
@@ -191,6 +254,7 @@ static void looking_up(uint32_t policy, uint64_t expires) {
         for (uint64_t now = expires - 1; now - expires + 1 < 2; now++) {
             luffa_status wanted = now < expires ? LUFFA_OK : LUFFA_MISSING;
             CHECK(luffa_get(cache, now, &key, 8, &value, 8, &len) == wanted);
+            CHECK(luffa_peek(cache, now, &key, 8, &value, 8, &len) == wanted);
             CHECK(luffa_contains(cache, now, &key, 8) == wanted && luffa_touch(cache, now, &key, 8) == wanted);
             CHECK(luffa_get_entry(cache, now, &key, 8, &entry) == wanted);
             if (wanted == LUFFA_OK)
@@ -202,11 +266,11 @@ static void looking_up(uint32_t policy, uint64_t expires) {
     luffa_destroy(cache);
 }
 
-enum evicting { RESIZE, EVICT_ALL, INSERT, INSERT_ENTRY, MAKE };
+enum evicting { RESIZE, EVICT_ALL, INSERT, INSERT_ENTRY, INSERT_OWNED, REPLACE_IF, SET_EXPIRES, MAKE };
 
 static bool evicts(luffa_cache *cache, uint64_t now, enum evicting call) {
     const luffa_terms terms = {.weight = 1};
-    uint64_t key = 10;
+    static uint64_t key = 10, resident = 5;
     switch (call) {
     case RESIZE:
         return luffa_resize(cache, now, 9) == LUFFA_OK;
@@ -216,6 +280,12 @@ static bool evicts(luffa_cache *cache, uint64_t now, enum evicting call) {
         return add(cache, now, key, 1, 0) == LUFFA_OK;
     case INSERT_ENTRY:
         return luffa_insert_entry(cache, now, &key, 8, &key, 8, &terms, NULL) == LUFFA_OK;
+    case INSERT_OWNED:
+        return luffa_insert_owned(cache, now, &key, 8, &key, &terms, NULL, NULL, NULL) == LUFFA_OK;
+    case REPLACE_IF:
+        return luffa_replace_if(cache, now, NULL, &key, 8, &key, 8, &terms, NULL) == LUFFA_OK;
+    case SET_EXPIRES:
+        return luffa_set_expires(cache, now, &resident, 8, 0) == LUFFA_OK;
     default:
         return made(cache, now, key, 0);
     }
@@ -236,7 +306,7 @@ static void evicting(uint32_t policy, uint64_t expires, enum evicting call) {
 
 /* Each shard gets its part of a capacity above 2^32, the first ones of what is left over too. */
 static void shares(uint32_t policy, size_t shards) {
-    const size_t weight = ((size_t)1 << 40) + 1, capacity = shards * 3 * weight + shards / 2;
+    const size_t weight = ((size_t)1 << 40) - 1, capacity = shards * 3 * weight + shards / 2;
     for (int is_resized = 0; is_resized < 2; is_resized++) {
         luffa_cache *cache = listened(policy, is_resized ? 0 : capacity, shards);
         if (is_resized)
@@ -280,5 +350,8 @@ int main(void) {
                 evicting(policy, TIMES[i], call);
         }
     }
+    leaving(0);
+    leaving(1000);
+    holding_more();
     return ended("sizes");
 }

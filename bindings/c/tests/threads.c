@@ -12,6 +12,7 @@
 enum { KEYS = 3000, HELD = 16, MOST_THREADS = 64, LONGEST = 400 };
 
 static luffa_cache *cache;
+static luffa_policy policy_in_use;
 static atomic_int is_over;
 static atomic_ulong wrong, calls, made, left, given, freed;
 static atomic_int is_making[KEYS + 1];
@@ -180,8 +181,13 @@ static void *work(void *context) {
                 wrong +=
                     luffa_insert(cache, 0, &key, sizeof key, &value, write_value(&value, key, noise), 1, 0) != LUFFA_OK;
         } else if (call < 700) {
+            luffa_entry *old = &held[noise % HELD];
+            if (old->shard != NULL && call % 8 == 0) { /* again, after the record has left */
+                wrong += luffa_remove_this(old) > LUFFA_MISSING;
+                wrong += luffa_remove_this(old) != LUFFA_MISSING;
+            }
             if (luffa_get_entry(cache, 0, &key, sizeof key, &entry) == LUFFA_OK)
-                hold(&held[noise % HELD], entry, key);
+                hold(old, entry, key);
         } else if (call < 900) {
             key &= ~1u;
             luffa_entry *wanted = noise % 4 == 0 ? NULL : &entry;
@@ -200,6 +206,8 @@ static void *work(void *context) {
         } else if (call < 980) {
             luffa_touch(cache, 0, &key, sizeof key);
             luffa_contains(cache, 0, &key, sizeof key);
+            if (luffa_peek(cache, 0, &key, sizeof key, &value, sizeof value, &len) == LUFFA_OK)
+                look_at(key, &value, len);
         } else if (call < 990) {
             key = noise % 2 == 0 ? key : KEYS + noise % 300;
             luffa_status status = luffa_set_expires(cache, 0, &key, sizeof key, noise);
@@ -216,6 +224,7 @@ static void *work(void *context) {
             luffa_evict_all(cache, 0);
         } else if (call < 998) {
             luffa_clear(cache);
+            wrong += luffa_reconfigure(cache, &policy_in_use) != LUFFA_OK;
         } else {
             wrong += luffa_get_stats(cache).entries > KEYS + 300;
         }
@@ -233,6 +242,7 @@ static void run(uint32_t policy, long threads, double seconds, int is_heard) {
     pthread_t ids[MOST_THREADS];
     uint32_t seeds[MOST_THREADS];
     config.capacity = 1000;
+    policy_in_use = config.policy;
     config.listener = is_heard ? hear : NULL;
     CHECK(luffa_create(&config, &cache) == LUFFA_OK);
     is_over = 0;
@@ -254,31 +264,55 @@ static void *wait_for_it(void *context) {
     (void)context;
     luffa_entry entry;
     CHECK(luffa_get_or_insert(cache, 0, "key", 3, NULL, NULL, &entry) == LUFFA_OK);
-    CHECK(entry.value_len == 8 && memcmp(entry.value, "inserted", 8) == 0);
+    CHECK(memcmp(entry.value, "inserted", 8) == 0);
     luffa_release(&entry);
     has_ended = 1;
     return NULL;
 }
 
+enum inserting { INSERT, INSERT_ENTRY, INSERT_OWNED, REPLACE_IF };
+
+struct waking {
+    enum inserting call;
+    pthread_t waiter;
+};
+
+static luffa_status insert_by(enum inserting call, const void *key, size_t key_len) {
+    static char value[] = "inserted";
+    const luffa_terms terms = {.weight = 1};
+    switch (call) {
+    case INSERT:
+        return luffa_insert(cache, 0, key, key_len, value, 8, 1, 0);
+    case INSERT_ENTRY:
+        return luffa_insert_entry(cache, 0, key, key_len, value, 8, &terms, NULL);
+    case INSERT_OWNED:
+        return luffa_insert_owned(cache, 0, key, key_len, value, &terms, NULL, NULL, NULL);
+    default:
+        return luffa_replace_if(cache, 0, NULL, key, key_len, value, 8, &terms, NULL);
+    }
+}
+
 /* Inserts the key while another thread waits for it, which then waits no more. */
 static int make_for_another(void *context, const void *key, size_t key_len, luffa_made *out) {
+    struct waking *waking = context;
     (void)out;
-    CHECK(pthread_create(context, NULL, wait_for_it, NULL) == 0);
+    CHECK(pthread_create(&waking->waiter, NULL, wait_for_it, NULL) == 0);
     while (luffa_get_stats(cache).misses < 2)
         nanosleep(&(struct timespec){0, 1000000}, NULL);
     nanosleep(&(struct timespec){0, 20000000}, NULL);
-    CHECK(luffa_insert(cache, 0, key, key_len, "inserted", 8, 1, 0) == LUFFA_OK);
+    CHECK(insert_by(waking->call, key, key_len) == LUFFA_OK);
     for (int i = 0; i < 5000 && !has_ended; i++)
         nanosleep(&(struct timespec){0, 1000000}, NULL);
     CHECK(has_ended);
     return 1;
 }
 
-static void insert_wakes(void) {
-    pthread_t waiter;
+static void insert_wakes(enum inserting call) {
+    struct waking waking = {.call = call};
+    has_ended = 0;
     cache = created(LUFFA_LRU, 10, 1);
-    CHECK(luffa_get_or_insert(cache, 0, "key", 3, make_for_another, &waiter, NULL) == LUFFA_OK);
-    pthread_join(waiter, NULL);
+    CHECK(luffa_get_or_insert(cache, 0, "key", 3, make_for_another, &waking, NULL) == LUFFA_OK);
+    pthread_join(waking.waiter, NULL);
     luffa_destroy(cache);
 }
 
@@ -330,7 +364,8 @@ static void all_are_refused(void) {
 int main(int argc, char **argv) {
     long threads = argc > 1 ? strtol(argv[1], NULL, 10) : 8;
     double seconds = argc > 2 ? strtod(argv[2], NULL) : 10;
-    insert_wakes();
+    for (enum inserting call = INSERT; call <= REPLACE_IF; call++)
+        insert_wakes(call);
     all_are_refused();
     for (uint32_t policy = LUFFA_FIFO; policy <= LUFFA_SIEVE; policy++)
         run(policy, threads < MOST_THREADS ? threads : MOST_THREADS, seconds / 5, policy % 2 == 0);

@@ -60,20 +60,24 @@ static int cache_init(cache_object *self, PyObject *args, PyObject *words) {
     static char *names[] = {"capacity", "policy", "changes", "shards", "ttl", "weigher", "timer", NULL};
     PyObject *capacity, *changes = NULL, *shards = NULL, *ttl = NULL, *weigher = NULL, *timer = NULL;
     const char *policy = "s3fifo";
+    uint64_t life;
     luffa_config config;
     if (!PyArg_ParseTupleAndKeywords(args, words, "O|sO!OOOO", names, &capacity, &policy, &PyDict_Type, &changes,
                                      &shards, &ttl, &weigher, &timer))
         return -1;
-    if (self->cache != NULL || self->weigher != NULL || self->timer != NULL) {
-        PyErr_SetString(PyExc_RuntimeError, "the cache was made before");
-        return -1;
-    }
     if (read_policy(policy, changes, &config) < 0)
         return -1;
     config.shards = 1;
     if (read_size(capacity, &config.capacity) < 0 || (shards != NULL && read_size(shards, &config.shards) < 0) ||
-        read_ttl(ttl, &self->ttl) < 0 || create(self, &config) < 0)
+        read_ttl(ttl, &life) < 0)
         return -1;
+    if (self->cache != NULL || self->weigher != NULL || self->timer != NULL) { /* also by the code of the ttl */
+        PyErr_SetString(PyExc_RuntimeError, "the cache was made before");
+        return -1;
+    }
+    if (create(self, &config) < 0)
+        return -1;
+    self->ttl = life;
     self->has_expiry = self->ttl > 0;
     self->is_lru = config.policy.kind == LUFFA_LRU;
     if (read_callable("weigher", weigher, &self->weigher) < 0)

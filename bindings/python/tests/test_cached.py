@@ -2,6 +2,7 @@
 
 from __future__ import annotations
 
+import contextlib
 import copy
 import functools
 import pickle
@@ -85,6 +86,15 @@ class Decorator(unittest.TestCase):
                 first.next(-1)
         self.assertEqual(first.count, 4)
 
+    def test_failures_as_lru_cache(self) -> None:
+        for size in (0, 3):
+            ours, theirs = (it(size)(lambda number: 1 // number) for it in (cached, functools.lru_cache))
+            for number in (0, 1, 0, 1, 0):
+                for it in (ours, theirs):
+                    with contextlib.suppress(ZeroDivisionError):
+                        it(number)
+                self.assertEqual(ours.cache_info(), theirs.cache_info())
+
     def test_no_room(self) -> None:
         for size in (0, -1, -(10**30)):
             calls: list = []
@@ -137,6 +147,19 @@ class Decorator(unittest.TestCase):
         self.assertEqual(function(9), [9])
         self.assertIs(function(9), inner[0])  # what was kept first stays, and no other result leaves for it
         self.assertEqual(function.cache_info(), (1, 5, 3, 3))
+
+    def test_hundreds_of_the_same_call_at_once(self) -> None:
+        @cached(3)
+        def function(number: int) -> int:
+            calls.append(number)
+            if len(calls) == 300:
+                raise LookupError
+            return function(number) if len(calls) < 300 else 7
+
+        calls: list = []
+        with self.assertRaises(LookupError):
+            function(1)
+        self.assertEqual((function(1), function(1), function.cache_info()), (7, 7, (1, 301, 3, 1)))
 
     def test_recursion(self) -> None:
         @cached(1000)

@@ -35,6 +35,24 @@ class Making(unittest.TestCase):
         self.assertEqual((cache.get("a"), len(cache), list(cache)), (None, 0, []))
         self.assertEqual(cache.stats().misses, 2)
 
+    def test_a_weigher_that_fails(self) -> None:
+        cache = Cache(10, weigher=lambda _, value: value)
+        for _ in range(3):
+            with self.assertRaises(TypeError):
+                cache.get_or_insert("a", str)
+        self.assertEqual((cache.get_or_insert("a", lambda _: 2), cache.stats()), (2, (0, 4, 2, 1, 10)))
+
+    def test_keys_of_one_hash_at_once(self) -> None:
+        cache, keys = Cache(10), (1, 2**61, 2**62 - 1)
+
+        def make(key: int) -> list:
+            below = keys[: keys.index(key)][-1:]
+            return [key, *(cache.get_or_insert(it, make) for it in below)]
+
+        self.assertEqual({*map(hash, keys)}, {1})
+        self.assertEqual(cache.get_or_insert(keys[2], make), [2**62 - 1, [2**61, [1]]])
+        self.assertEqual([cache[key][0] for key in keys], [*keys])
+
     def test_failures_are_told_to_those_who_wait(self) -> None:
         cache, begun, may_end = Cache(10), threading.Event(), threading.Event()
 
@@ -62,7 +80,7 @@ class Making(unittest.TestCase):
         for it in threads:
             it.join()
         self.assertEqual(sorted(found), ["", *["no value was made (F15)"] * 5])
-        self.assertEqual((cache.stats().misses, len(cache), list(cache)), (6, 0, []))
+        self.assertEqual((cache.stats()[:2], len(cache), list(cache)), ((0, 6), 0, []))
         self.assertEqual(cache.get_or_insert("a", lambda _: "made"), "made")
 
     def make_slowly(self, cache: Cache, meanwhile: Callable[[], object], ends_it: bool = True) -> list:

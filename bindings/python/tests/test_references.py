@@ -246,6 +246,20 @@ class References(unittest.TestCase):
         gc.collect()
         self.assertIsNone(watched())
 
+    def test_a_cache_is_made_once(self) -> None:
+        class Life:
+            def __float__(self) -> float:
+                cache.__init__(5)
+                return 1.0
+
+        cache, value = Cache.__new__(Cache), Value()
+        watched = weakref.ref(value)
+        with self.assertRaises(RuntimeError):
+            cache.__init__(10, ttl=Life())
+        cache["a"] = value
+        del value
+        self.assertEqual((cache.stats().capacity, cache.pop("a") is watched(), watched()), (5, True, None))
+
     def test_closing_by_the_collector(self) -> None:
         threshold = gc.get_threshold()
         for requests in range(1, 30):

@@ -73,6 +73,17 @@ class Sizes(unittest.TestCase):
                 leave(cache)
                 self.assertEqual(len(watched), 0)
 
+    def test_more_keys_than_16_bits_count(self) -> None:
+        count, time_now = 70_000, [1.0]
+        cache = Cache(2 * count, "fifo", ttl=5, timer=lambda: time_now[0])
+        for key in range(count):
+            cache[key] = -key
+        cache.insert("lasting", 1, ttl=20)
+        self.assertEqual(list(cache.items()), [*((key, -key) for key in range(count)), ("lasting", 1)])
+        time_now[0] = 6
+        cache.expire()
+        self.assertEqual((list(cache), len(cache)), (["lasting"], 1))
+
     def test_thousands_that_are_held(self) -> None:
         for policy in POLICIES:
             cache = Cache(4000, policy, shards=17)

@@ -20,7 +20,12 @@ class Terms(unittest.TestCase):
         self.assertEqual((cache["a"], cache.stats()), (1, (1, 0, 2**64 - 1, 1, 2**64 - 1)))
         cache = Cache(2**64 - 1, "lru", weigher=lambda _, value: value)
         cache["a"], cache["b"] = 2**40, 2**63
-        self.assertEqual(cache.stats().usage, 2**40 + 2**63)
+        cache.get_or_insert("c", lambda _: 2**35), cache.setdefault("d", 2**36)
+        self.assertEqual(cache.stats().usage, 2**40 + 2**63 + 2**35 + 2**36)
+        cache = Cache(2**64 - 1, "lru", shards=2)
+        for key in range(20):  # each shard has one, whose sum is too much
+            cache.insert(key, key, weight=2**64 - 1)
+        self.assertEqual((cache.stats().usage, len(cache)), (2**64 - 1, 2))
         for call in (lambda: Cache(2**64), lambda: cache.insert("b", 1, weight=2**64), lambda: cache.resize(-1)):
             with self.assertRaises(OverflowError):
                 call()
@@ -163,6 +168,30 @@ class Terms(unittest.TestCase):
         cache = Cache(10, ttl=1e300)
         cache["a"] = 1
         self.assertIn("a", cache)
+
+    def test_late_times(self) -> None:
+        looks: list = [lambda it: it.get("a"), lambda it: it.peek("a"), lambda it: "a" in it or None]
+        looks += [lambda it: it.touch("a") or None, lambda it: it.setdefault("a"), lambda it: it.pop("a", None)]
+        looks += [lambda it: it.get_or_insert("a", lambda _: None), lambda it: dict(it).get("a"), lambda it: it.popitem()[1]]
+        calls: list = [lambda it: it.resize(9), lambda it: it.insert(10, 10), lambda it: it.touch(5, 100)]
+        calls += [lambda it: it.setdefault(10), lambda it: it.get_or_insert(10, id)]
+        for begun in (1e9, 2**33, 2**49 + 5, 2**56):  # in nanoseconds
+            for look in looks:
+                for later, wanted in ((4, 1), (6, None)):
+                    time_now = [begun / 1e9]
+                    cache = Cache(10, timer=lambda: time_now[0])
+                    cache.insert("a", 1, ttl=5)
+                    cache["b"] = None
+                    time_now[0] += later
+                    self.assertEqual(look(cache), wanted)
+            for call in calls:  # what is expired leaves first
+                time_now = [begun / 1e9]
+                cache = Cache(10, "fifo", timer=lambda: time_now[0])
+                for key in range(10):
+                    cache.insert(key, key, ttl=5 if key == 9 else None)
+                time_now[0] += 6
+                call(cache)
+                self.assertEqual({*range(9)} - {*cache}, set())
 
     def test_policies_are_values(self) -> None:
         policies = [Fifo(), Lru(), Lfu(), Lfu(0.2), Lfu(protected=0.2), S3Fifo(), S3Fifo(0.2), S3Fifo(ghost=0.2), Sieve()]
