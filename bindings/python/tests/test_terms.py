@@ -20,7 +20,8 @@ class Terms(unittest.TestCase):
         self.assertEqual((cache["a"], cache.stats()), (1, (1, 0, 2**64 - 1, 1, 2**64 - 1)))
         cache = Cache(2**64 - 1, "lru", weigher=lambda _, value: value)
         cache["a"], cache["b"] = 2**40, 2**63
-        cache.get_or_insert("c", lambda _: 2**35), cache.setdefault("d", 2**36)
+        cache.get_or_insert("c", lambda _: 2**35)
+        cache.setdefault("d", 2**36)
         self.assertEqual(cache.stats().usage, 2**40 + 2**63 + 2**35 + 2**36)
         cache = Cache(2**64 - 1, "lru", shards=2)
         for key in range(20):  # each shard has one, whose sum is too much
