@@ -191,20 +191,31 @@ class Installs(Room):
             raise RuntimeError("the package is still there")
 
     def other_pythons(self):
-        """The archive's package by other versions of Python that are here, and its tests but those of sizes."""
+        """The archive's package by other versions of Python that are here: its tests but those of sizes by the first and the
+        last, and the program of the page by those between, which have the last one's wheel."""
         pythons = [it for it in map(self._python_of, VERSIONS) if it]
         if not pythons:
             raise Skipped("there is no other Python")
         self.run("tar", "xzf", *glob.glob(f"{self.room}/dist/*"), "-C", f"{self.room}/dist")
         (packages,) = glob.glob(f"{self.room}/dist/*/python")
-        for it in pythons:
-            venv = tempfile.mkdtemp(dir=self.room)
-            env = {"PATH": "/usr/bin:/bin", "HOME": venv, "PYTHONDONTWRITEBYTECODE": "1"}
-            self.run(it, "-m", "venv", venv, env=env)
-            python = f"{venv}/bin/python"
-            pip = [python, "-m", "pip", "--disable-pip-version-check", "-q"]
-            self.run(*pip, "install", "--no-index", "--find-links", packages, PACKAGE, env=env, cwd=venv)
-            self.run(python, *PYTHON_TESTS, "-p", "test_[!s]*.py", env=env, cwd=venv)
+        for it in {pythons[0], pythons[-1]}:
+            self._test_package(it, packages)
+        text, wanted = self.readme()["python"]
+        common.put(f"{self.room}/page.py", text.encode())
+        for wheel in glob.glob(f"{packages}/*-abi3-*.whl"):
+            with zipfile.ZipFile(wheel) as file:
+                file.extractall(f"{self.room}/abi3")
+        for it in pythons[1:-1]:
+            self.same(self.run(it, f"{self.room}/page.py", env={"PATH": "/usr/bin:/bin", "PYTHONPATH": f"{self.room}/abi3"}), wanted)
+
+    def _test_package(self, interpreter, packages):
+        venv = tempfile.mkdtemp(dir=self.room)
+        env = {"PATH": "/usr/bin:/bin", "HOME": venv, "PYTHONDONTWRITEBYTECODE": "1"}
+        self.run(interpreter, "-m", "venv", venv, env=env)
+        python = f"{venv}/bin/python"
+        pip = [python, "-m", "pip", "--disable-pip-version-check", "-q"]
+        self.run(*pip, "install", "--no-index", "--find-links", packages, PACKAGE, env=env, cwd=venv)
+        self.run(python, *PYTHON_TESTS, "-p", "test_[!s]*.py", env=env, cwd=venv)
 
     @staticmethod
     def _python_of(minor):

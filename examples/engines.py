@@ -8,7 +8,7 @@ import time
 
 HERE = os.path.dirname(os.path.realpath(__file__))
 BINDINGS = f"{os.path.dirname(HERE)}/bindings"
-WARNINGS = ["-Wall", "-Wextra", "-Werror", "-g", "-pthread"]
+WARNINGS = ["-Wall", "-Wextra", "-Werror", "-g1", "-pthread"]
 ADDRESSES = ["-fsanitize=address,undefined", "-fno-sanitize-recover=all"]
 CHECKS = ",".join(
     ["-*", "bugprone-*", "cert-*", "clang-analyzer-*", "misc-*", "performance-*", "portability-*"]
