@@ -9,7 +9,7 @@ sys.path.insert(0, f"{HERE}/../erase")
 import erase
 
 TESTS = ["foyer_policy_tests", "foyer_core_tests", "foyer_session_tests", "foyer_raw_tests", "foyer_memory_tests"]
-PROGRAMS = ["foyer_sim", "foyer_sim_cache", "foyer_bench"]
+PROGRAMS = ["foyer_sim", "foyer_sim_cache", "foyer_bench", "foyer_sizes"]
 LIBRARIES = ["foyer_session"]
 # Modules of tests that are left out.
 LEFT_OUT = {

@@ -145,7 +145,7 @@ def points_are_the_rows(program):
 @case
 def progress_on_a_terminal(program):
     leader, follower = pty.openpty()
-    sizes = [str(size) for size in range(10, 90)]
+    sizes = [str(size) for size in range(10, 50)]
     words = [program.path, TRACES / "sqlite.keys", "--policy", "lfu,s3fifo", "--size", ",".join(sizes), "--jobs", "1"]
     with subprocess.Popen(list(map(str, words)), stdout=subprocess.DEVNULL, stderr=follower) as ran:
         os.close(follower)
@@ -159,7 +159,7 @@ def progress_on_a_terminal(program):
         assert ran.wait() == 0
     os.close(leader)
     told = said.decode().split("\r")
-    form = r"[0-9,]+ of 17,890,400 requests, [0-9.]+ million a second, [0-9.]+ minutes left *"
+    form = r"[0-9,]+ of 8,945,200 requests, [0-9.]+ million a second, [0-9.]+ minutes left *"
     assert len(told) > 3 and told[0] == "" and told[-2:] == [" " * 76, ""], told
     assert all(re.fullmatch(form, it) for it in told[1:-2]), told
 

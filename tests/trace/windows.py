@@ -56,10 +56,10 @@ def windows_are_shown(program):
 @case
 def the_least_size_is_recommended(program):
     """The least size whose miss ratio is wanted, the best policy there, and what twice that size has."""
-    name = TRACES / "sqlite.keys"
+    name = program.put("part.keys", "".join(open(TRACES / "sqlite.keys", encoding="utf-8").readlines()[:30_000]))
     words = [name, "--policy", "all,belady,arc", "--size", "18,53,176,529", "--quiet"]
     rows = program.rows(*words[:-1])
-    for target in ("0.4", "0.2", "12%", "0.9"):
+    for target in ("0.4", "0.2", "14%", "0.9"):
         ratio = float(target.rstrip("%")) / (100 if "%" in target else 1)
         fit = [it for it in rows if it["policy"] not in ("belady", "arc") and float(it["miss_ratio"]) <= ratio]
         best = min(fit, key=lambda it: (int(it["size"]), float(it["miss_ratio"])))

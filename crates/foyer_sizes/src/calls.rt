@@ -66,6 +66,6 @@ impl Call {
 }
 
 /// What a future gives at its first poll.
-pub fn at_once<H: Runtime, F: Future>(rt: H, future: F) -> Outcome<F::Output> {
+pub fn at_once<H: Runtime, F: Future>(rt: H, mut future: F) -> Outcome<F::Output> {
     future.now_or_never(&rt)?.ok_or(Failure::Differs)
 }

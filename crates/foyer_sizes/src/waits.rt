@@ -49,24 +49,30 @@ impl<F: Future> Future for Counted<F> {
     }
 }
 
-// Waits until both were polled, a minute at most, and then so long that they are asleep. How often they were polled.
-fn asleep<H: Runtime>(rt: &H, polls: &[&Polls; 2]) -> [u64; 2] {
-    let seen = || [
+fn seen(polls: &[&Polls; 2]) -> [u64; 2] {
+    [
         polls[0].load(Ordering::SeqCst),
         polls[1].load(Ordering::SeqCst),
-    ];
+    ]
+}
+
+// Waits until both were polled, a minute at most, and then so long that they are asleep. How often they were polled by
+// then, and how often a while later.
+fn asleep<H: Runtime>(rt: &H, polls: &[&Polls; 2]) -> [[u64; 2]; 2] {
     for _ in 0..60_000u64 {
-        if seen()[0] > 0 && seen()[1] > 0 {
+        if seen(polls)[0] > 0 && seen(polls)[1] > 0 {
             break;
         }
         thread::sleep(rt, Duration::from_millis(1));
     }
     thread::sleep(rt, Duration::from_millis(20));
-    seen()
+    let then = seen(polls);
+    thread::sleep(rt, Duration::from_millis(20));
+    [then, seen(polls)]
 }
 
 // One thread sleeps in a look-up and another in its fetch. A third one ends the fetch, or inserts the key; then the fetch
-// is ended too, so that its thread wakes up. Until then each was polled once.
+// is ended too, so that its thread wakes up. Until then none is polled, and then each once.
 fn wakes<H: Runtime>(rt: H, config: EvictionConfig, is_fetched: bool) -> Outcome {
     let heard = Heard::new(rt.alloc(), 10)?;
     let cache = cache(rt, 10, 1, config, &heard)?;
@@ -96,11 +102,11 @@ fn wakes<H: Runtime>(rt: H, config: EvictionConfig, is_fetched: bool) -> Outcome
             )
         },
     );
-    same(rt, "polls while both sleep", &polls, &[1, 1])?;
+    let [then, later] = polls;
+    same(rt, "polls while both sleep", &later, &then)?;
     let value = if is_fetched { 1 } else { 2 };
     same(rt, "value", &*found??, &value)?;
-    let most = waited
-        .load(Ordering::SeqCst)
-        .max(worked.load(Ordering::SeqCst));
-    same(rt, "polls at the end are at most two", &(most <= 2), &true)
+    let [looked, fetched] = seen(&[&waited, &worked]);
+    let is_once = looked <= then[0] + 1 && fetched <= then[1] + 1;
+    same(rt, "each is polled once at the end", &is_once, &true)
 }
