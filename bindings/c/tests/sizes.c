@@ -329,6 +329,30 @@ static void high_hashes(uint32_t policy, size_t shards) {
     luffa_destroy(cache);
 }
 
+/* A key whose hash differs above bit 32 alone is none that left lately, which S3-FIFO would keep. */
+static void remembering(uint64_t key, luffa_status wanted) {
+    luffa_cache *cache = listened(LUFFA_S3FIFO, 10, 1);
+    for (uint64_t other = 0; other < 11; other++)
+        CHECK(add(cache, 0, other, 1, 0) == LUFFA_OK);
+    CHECK(add(cache, 0, key, 1, 0) == LUFFA_OK);
+    for (uint64_t other = 100; other < 110; other++)
+        CHECK(add(cache, 0, other, 1, 0) == LUFFA_OK);
+    CHECK(luffa_contains(cache, 0, &key, 8) == wanted);
+    luffa_destroy(cache);
+}
+
+/* More hits and misses than 16 bits count. */
+static void counting(void) {
+    luffa_cache *cache = listened(LUFFA_LRU, 10, 1);
+    uint64_t key = 1, missing = 2;
+    CHECK(add(cache, 0, key, 1, 0) == LUFFA_OK);
+    for (size_t i = 0; i < MANY; i++)
+        CHECK(luffa_touch(cache, 0, &key, 8) == LUFFA_OK && luffa_touch(cache, 0, &missing, 8) == LUFFA_MISSING);
+    luffa_stats stats = luffa_get_stats(cache);
+    CHECK(stats.hits == MANY && stats.misses == MANY);
+    luffa_destroy(cache);
+}
+
 int main(void) {
     static const size_t SHARDS[] = {17, 65, 100, 128};
     static const uint64_t TIMES[] = {(uint64_t)1 << 32, ((uint64_t)1 << 48) + 5, (uint64_t)1 << 56, UINT64_MAX - 1};
@@ -353,5 +377,8 @@ int main(void) {
     leaving(0);
     leaving(1000);
     holding_more();
+    remembering(0, LUFFA_OK);
+    remembering((uint64_t)1 << 32, LUFFA_MISSING);
+    counting();
     return ended("sizes");
 }
