@@ -94,7 +94,7 @@ fn taken(alloc: Global, told: Result<Leaves>) -> Called {
 // it would take memory.
 fn looked(core: &mut Core, op: Op<'_>) -> Result<Option<u64>> {
     let found = match op {
-        Op::Ask(key) => match core.get_or_enqueue(0, &key, None, 0)? {
+        Op::Ask(key) => match core.get_or_enqueue(0, &key, None, ())? {
             Lookup::Hit(entry) => {
                 drop(core.drop_entry(entry));
                 return Ok(None);

@@ -14,7 +14,7 @@ pub type Core = CacheCore<
     ModHasher,
     SimWeighter,
     AdmitAll,
-    u64,
+    (),
     u64,
 >;
 
@@ -65,10 +65,7 @@ pub fn fill(core: &mut Core, end: u64, expires: Option<u64>) -> Result<()> {
 }
 
 /// Ends what came in: the record's id, and what left.
-pub fn ended(
-    core: &mut Core,
-    made: Inserted<u64, SimValue, CacheProperties, u64>,
-) -> (u64, Leaves) {
+pub fn ended(core: &mut Core, made: Inserted<u64, SimValue, CacheProperties, ()>) -> (u64, Leaves) {
     let Inserted {
         entry,
         answers,

@@ -114,7 +114,7 @@ pub fn prepared(
 
 /// Asks for `FETCHED`.
 pub fn ask_for(core: &mut Core) -> Result<()> {
-    match core.get_or_enqueue(0, &FETCHED, None, 0)? {
+    match core.get_or_enqueue(0, &FETCHED, None, ())? {
         Lookup::Hit(entry) => drop(core.drop_entry(entry)),
         Lookup::Lead {
             fetch: _,
