@@ -1,20 +1,20 @@
 //! Books, and audited shards, over the commands of a session.
 
-use crate::sessions::{
-    Asked, EvenKeys, Kind, Shared, Step, Wanted, command, fault, inserting, replied,
-};
+use crate::cores::one_shard;
+use crate::locked::Runtime;
+use crate::sessions::{Asked, EvenKeys, Inputs, Kind, Step, Wanted, command, inserting, replied};
 use crate::word::Shown;
 use foyer_audit::{AuditedShard, Book, Closed, Share};
-use foyer_core::{AdmitAll, CacheProperties, RawCacheConfig};
-use foyer_policy::{Error, Eviction, ModHasher, Reason, Result};
+use foyer_core::{AdmitAll, CacheProperties};
+use foyer_policy::{AnyEviction, Error, EvictionConfig, ModHasher, Reason, Result};
 use foyer_session::{Command, SimValue, SimWeighter};
 use std::alloc::Global;
 use std::marker::Brand;
 use std::sync::Wait;
 use std::sync::ledger::{Blank, Ledger};
 
-type Written<E> = Book<
-    E,
+type Written = Book<
+    AnyEviction,
     u64,
     SimValue,
     CacheProperties,
@@ -22,12 +22,12 @@ type Written<E> = Book<
     SimWeighter,
     AdmitAll,
     EvenKeys,
-    <E as Eviction>::Config,
+    EvictionConfig,
 >;
 
-type Shard<G, E> = AuditedShard<
+type Shard<G> = AuditedShard<
     G,
-    E,
+    AnyEviction,
     u64,
     SimValue,
     CacheProperties,
@@ -35,36 +35,19 @@ type Shard<G, E> = AuditedShard<
     SimWeighter,
     AdmitAll,
     EvenKeys,
-    <E as Eviction>::Config,
+    EvictionConfig,
 >;
 
-type Part<G, E> = Share<G, u64, SimValue, CacheProperties, EvenKeys, <E as Eviction>::Config>;
-
-type Config<E> = RawCacheConfig<<E as Eviction>::Config, ModHasher, SimWeighter, AdmitAll>;
-
-// Shard 0 of one, of capacity 4.
-fn config<E: Eviction>() -> Config<E>
-where
-    E::Config: Default,
-{
-    RawCacheConfig {
-        shards: 1,
-        hash_builder: ModHasher::default(),
-        ..RawCacheConfig::new(4).with_weighter(SimWeighter)
-    }
-}
+type Part<G> = Share<G, u64, SimValue, CacheProperties, EvenKeys, EvictionConfig>;
 
 /// Shows the call of this name, where it is one of these.
-pub fn shown<E: Eviction, H: Wait>(rt: &H, alloc: Global, name: &str) -> Option<Shown>
-where
-    E::Config: Clone + Default + Eq,
-{
+pub fn shown<H: Runtime>(rt: &H, config: &EvictionConfig, name: &str) -> Option<Shown> {
+    let alloc = rt.alloc();
     let asked = match name {
-        "book_new" => return Some(opened(alloc, || Written::<E>::new(alloc, config::<E>(), 0))),
-        "audited_new" => return Some(opened(
-            alloc,
-            || two_shares::<Brand, E>(alloc, Blank::new(2)),
-        )),
+        "book_new" => return Some(opened(alloc, || book(alloc, config))),
+        "audited_new" => {
+            return Some(opened(alloc, || two_shares::<Brand>(alloc, Blank::new(2), config)));
+        }
         "book_insert" | "audited_insert" => "step_insert",
         "book_get" | "audited_get" => "step_get",
         "book_lead" | "audited_lead" => "step_lead",
@@ -72,13 +55,13 @@ where
         "book_clear" | "audited_clear" => "step_clear",
         _ => return None,
     };
-    let Ok(fault) = fault(alloc) else {
+    let Ok(inputs) = Inputs::new(alloc, config) else {
         return Some(Shown::Early);
     };
     if name.starts_with("book_") {
-        return in_a_book::<E>(alloc, asked, &fault);
+        return in_a_book(alloc, &inputs, asked);
     }
-    in_a_shard::<Brand, E, H>(rt, alloc, Blank::new(1), asked, &fault)
+    in_a_shard::<Brand, H>(rt, alloc, Blank::new(1), &inputs, asked)
 }
 
 // What is opened once more where that is refused.
@@ -90,12 +73,22 @@ fn opened<T: Drop, O: Fn() -> Result<T>>(alloc: Global, open: O) -> Shown {
     }
 }
 
-// An audited shard for two, which have each a share.
-fn two_shares<G: Ledger, E: Eviction>(alloc: Global, blank: Blank) -> Result<Shard<G, E>>
-where
-    E::Config: Clone + Default + Eq,
-{
-    let (shard, shares) = Shard::<G, E>::new(alloc, blank, config::<E>(), 0, 2)?;
+fn book(alloc: Global, config: &EvictionConfig) -> Result<Written> {
+    Written::new(alloc, one_shard(config, 4)?, 0)
+}
+
+// An audited shard for so many, which have each a share.
+fn shard<G: Ledger>(
+    alloc: Global,
+    blank: Blank,
+    config: &EvictionConfig,
+    callers: usize,
+) -> Result<(Shard<G>, Vec<Part<G>>)> {
+    Shard::<G>::new(alloc, blank, one_shard(config, 4)?, 0, callers)
+}
+
+fn two_shares<G: Ledger>(alloc: Global, blank: Blank, config: &EvictionConfig) -> Result<Shard<G>> {
+    let (shard, shares) = shard::<G>(alloc, blank, config, 2)?;
     if shares.len() == 2 && shares.iter().all(|share| share.receipts().is_empty()) {
         return Ok(shard);
     }
@@ -103,16 +96,13 @@ where
 }
 
 // What records the commands that it carries out.
-trait Records<E: Eviction> {
+trait Records {
     // Carries a command out: its number, and what it told, where a copy of that could be had.
-    fn make(&mut self, command: Asked<E>) -> Result<(u64, Option<Step>)>;
+    fn make(&mut self, command: Asked) -> Result<(u64, Option<Step>)>;
 }
 
-impl<E: Eviction> Records<E> for Written<E>
-where
-    E::Config: Clone + Default + Eq,
-{
-    fn make(&mut self, command: Asked<E>) -> Result<(u64, Option<Step>)> {
+impl Records for Written {
+    fn make(&mut self, command: Asked) -> Result<(u64, Option<Step>)> {
         let number = self.apply(command)?;
         Ok((number, self.reply(number).map(replied)))
     }
@@ -120,20 +110,14 @@ where
 
 // An audited shard in the hands of one caller.
 #[derive(Drop)]
-struct Caller<'a, G: Ledger, E: Eviction, H: Wait>
-where
-    E::Config: Clone + Default + Eq,
-{
+struct Caller<'a, G: Ledger, H: Wait> {
     rt: &'a H,
-    shard: &'a Shard<G, E>,
-    share: Part<G, E>,
+    shard: &'a Shard<G>,
+    share: Part<G>,
 }
 
-impl<G: Ledger, E: Eviction, H: Wait> Records<E> for Caller<'_, G, E, H>
-where
-    E::Config: Clone + Default + Eq,
-{
-    fn make(&mut self, command: Asked<E>) -> Result<(u64, Option<Step>)> {
+impl<G: Ledger, H: Wait> Records for Caller<'_, G, H> {
+    fn make(&mut self, command: Asked) -> Result<(u64, Option<Step>)> {
         let (reply, number) = self.shard.call(self.rt, &mut self.share, command)?;
         match self.share.receipts().last() {
             Some(receipt)
@@ -149,9 +133,9 @@ where
 const BEFORE: u64 = 8;
 
 // The keys 0 to 3 are in, with the handles 0 to 3, the piece 0 is of the key 0, and one waits for the key 9.
-fn prepare<E: Eviction, R: Records<E>>(records: &mut R) -> Result<()> {
+fn prepare<R: Records>(records: &mut R) -> Result<()> {
     for key in 0..4u64 {
-        granted(records.make(inserting::<E>(key))?)?;
+        granted(records.make(inserting(key))?)?;
     }
     granted(records.make(Command::TakePiece(0))?)?;
     granted(records.make(Command::GetOrFetch(0, 9, None))?)?;
@@ -166,32 +150,26 @@ fn granted(made: (u64, Option<Step>)) -> Result<()> {
     }
 }
 
-fn in_a_book<E: Eviction>(alloc: Global, asked: &str, fault: &Shared) -> Option<Shown>
-where
-    E::Config: Clone + Default + Eq,
-{
-    let Ok(mut book) = Written::<E>::new(alloc, config::<E>(), 0) else {
+fn in_a_book(alloc: Global, inputs: &Inputs<'_>, asked: &str) -> Option<Shown> {
+    let Ok(mut book) = book(alloc, inputs.config) else {
         return Some(Shown::Early);
     };
-    let Ok(()) = prepare::<E, Written<E>>(&mut book) else {
+    let Ok(()) = prepare(&mut book) else {
         return Some(Shown::Early);
     };
-    let shown = compared::<E, Written<E>>(&mut book, asked, fault)?;
+    let shown = compared(&mut book, inputs, asked)?;
     Some(shown.or_behind(alloc))
 }
 
 // The receipts account for the history in the end.
-fn in_a_shard<G: Ledger, E: Eviction, H: Wait>(
+fn in_a_shard<G: Ledger, H: Wait>(
     rt: &H,
     alloc: Global,
     blank: Blank,
+    inputs: &Inputs<'_>,
     asked: &str,
-    fault: &Shared,
-) -> Option<Shown>
-where
-    E::Config: Clone + Default + Eq,
-{
-    let Ok((shard, mut shares)) = Shard::<G, E>::new(alloc, blank, config::<E>(), 0, 1) else {
+) -> Option<Shown> {
+    let Ok((shard, mut shares)) = shard::<G>(alloc, blank, inputs.config, 1) else {
         return Some(Shown::Early);
     };
     let mut caller = Caller {
@@ -199,10 +177,10 @@ where
         shard: &shard,
         share: shares.pop()?,
     };
-    let Ok(()) = prepare::<E, Caller<'_, G, E, H>>(&mut caller) else {
+    let Ok(()) = prepare(&mut caller) else {
         return Some(Shown::Early);
     };
-    let shown = compared::<E, Caller<'_, G, E, H>>(&mut caller, asked, fault)?;
+    let shown = compared(&mut caller, inputs, asked)?;
     let shown = shown.or_behind(alloc);
     let Caller { share, .. } = caller;
     let count = share.receipts().len();
@@ -217,15 +195,8 @@ where
 }
 
 // Makes the command of a name until it is not refused, and compares what is recorded with what is wanted.
-fn compared<E: Eviction, R: Records<E>>(
-    records: &mut R,
-    name: &str,
-    fault: &Shared,
-) -> Option<Shown>
-where
-    E::Config: Default,
-{
-    let (asked, wanted) = command::<E>(name, fault)?;
+fn compared<R: Records>(records: &mut R, inputs: &Inputs<'_>, name: &str) -> Option<Shown> {
+    let (asked, wanted) = command(inputs, name)?;
     let (gone, next) = match records.make(asked) {
         Ok((BEFORE, Some(step))) if step.refused.is_none() => {
             return Some(if is_wanted(step, 0, wanted) {
@@ -247,7 +218,7 @@ where
     if !has(records, next, 4u128.saturating_sub(gone as u128)) {
         return Some(Shown::Wrong("the sums after a refused command"));
     }
-    let (asked, wanted) = command::<E>(name, fault)?;
+    let (asked, wanted) = command(inputs, name)?;
     let told = records.make(asked);
     let is_right = matches!(told, Ok((number, Some(step)))
         if number == next + 1 && step.refused.is_none() && is_wanted(step, gone, wanted));
@@ -263,7 +234,7 @@ fn is_wanted(step: Step, gone: usize, wanted: Wanted) -> bool {
 }
 
 // A command that was made, once, left this usage, and no fetch of the key 9 open where it was the end of one.
-fn stands<E: Eviction, R: Records<E>>(records: &mut R, wanted: Wanted, usage: u128) -> Shown {
+fn stands<R: Records>(records: &mut R, wanted: Wanted, usage: u128) -> Shown {
     if !has(records, BEFORE + 1, usage) {
         return Shown::Wrong("the sums after a command that was made");
     }
@@ -278,7 +249,7 @@ fn stands<E: Eviction, R: Records<E>>(records: &mut R, wanted: Wanted, usage: u1
 }
 
 // Whether a question for the usage has this number, and this answer.
-fn has<E: Eviction, R: Records<E>>(records: &mut R, number: u64, usage: u128) -> bool {
+fn has<R: Records>(records: &mut R, number: u64, usage: u128) -> bool {
     match records.make(Command::Usage) {
         Ok((at, Some(step))) => at == number && step.number == Some(usage),
         _ => false,

@@ -2,7 +2,7 @@
 
 use crate::cores::{Core, Leaves, ended, weighing};
 use foyer_core::{CacheProperties, Lookup, Piece, Refused};
-use foyer_policy::{Error, Eviction, Properties, Result};
+use foyer_policy::{Error, EvictionConfig, Properties, Result};
 use foyer_session::SimValue;
 use std::alloc::Global;
 
@@ -11,7 +11,7 @@ pub type Kept = Piece<u64, SimValue, CacheProperties>;
 
 /// A call. Each has its key, and inserts their weight.
 #[derive(Clone, Copy)]
-pub enum Op {
+pub enum Op<'a> {
     Insert(u64, usize),
     Phantom(u64),
     Piece(u64),
@@ -23,7 +23,7 @@ pub enum Op {
     Get(u64),
     Remove(u64),
     Touch(u64),
-    Reconfigure,
+    Reconfigure(&'a EvictionConfig),
 }
 
 /// What a call answered: the number of its refusal, what left, and the number of the record or the token that it gave.
@@ -35,10 +35,7 @@ pub struct Told {
 }
 
 /// Makes a call, and lets go what it hands out. The piece is that which an `Op::Piece` puts in.
-pub fn make<E: Eviction>(alloc: Global, core: &mut Core<E>, op: Op, piece: Option<&Kept>) -> Told
-where
-    E::Config: Default,
-{
+pub fn make(alloc: Global, core: &mut Core, op: Op<'_>, piece: Option<&Kept>) -> Told {
     match called(alloc, core, op, piece) {
         Ok((leaves, number)) => Told {
             refused: None,
@@ -55,10 +52,7 @@ where
 
 type Called = std::result::Result<(Leaves, Option<u64>), Refused<u64, SimValue, CacheProperties>>;
 
-fn called<E: Eviction>(alloc: Global, core: &mut Core<E>, op: Op, piece: Option<&Kept>) -> Called
-where
-    E::Config: Default,
-{
+fn called(alloc: Global, core: &mut Core, op: Op<'_>, piece: Option<&Kept>) -> Called {
     let made = match op {
         Op::Insert(key, weight) => core.insert(0, key, weighing(weight))?,
         Op::Phantom(key) => {
@@ -98,12 +92,9 @@ fn taken(alloc: Global, told: Result<Leaves>) -> Called {
 
 // Makes a call with which nothing leaves. What leaves with a removal is told by the entry's id alone, since a list of
 // it would take memory.
-fn looked<E: Eviction>(core: &mut Core<E>, op: Op) -> Result<Option<u64>>
-where
-    E::Config: Default,
-{
+fn looked(core: &mut Core, op: Op<'_>) -> Result<Option<u64>> {
     let found = match op {
-        Op::Ask(key) => match core.get_or_enqueue(0, &key, None, 0)? {
+        Op::Ask(key) => match core.get_or_enqueue(0, &key, None, ())? {
             Lookup::Hit(entry) => {
                 drop(core.drop_entry(entry));
                 return Ok(None);
@@ -118,10 +109,11 @@ where
         Op::Get(key) => core.get(0, &key)?,
         Op::Remove(key) => core.remove(&key)?.map(|(entry, _)| entry),
         Op::Touch(key) => return Ok(if core.touch(0, &key)? { None } else { Some(0) }),
-        _ => {
-            core.reconfigure(&E::Config::default())?;
-            return Ok(None);
+        Op::Reconfigure(config) => {
+            core.reconfigure(config)?;
+            None
         }
+        _ => None,
     };
     let Some(entry) = found else {
         return Ok(None);

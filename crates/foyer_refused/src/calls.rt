@@ -4,19 +4,19 @@ use crate::call::Op;
 use crate::cores::FETCHED;
 use crate::kept::{FULL, Filled, ROOMY, SHARDED, WAITED, Wanted, compared, prepared};
 use crate::word::Shown;
-use foyer_policy::{Event, Eviction};
+use foyer_policy::{Event, EvictionConfig};
 use std::alloc::Global;
 
 // A call of a core that holds this. It evicts so many records of the policy's order.
 #[derive(Clone, Copy)]
-struct Row {
+struct Row<'a> {
     filled: Filled,
-    op: Op,
+    op: Op<'a>,
     evicts: usize,
 }
 
-// The call of a name.
-fn row(name: &str) -> Option<Row> {
+// The call of a name over a policy.
+fn row<'a>(config: &'a EvictionConfig, name: &str) -> Option<Row<'a>> {
     let (filled, op, evicts) = match name {
         "first_insert" => (holding(0), Op::Insert(FETCHED, 1), 0),
         "insert" => (ROOMY, Op::Insert(FETCHED, 1), 0),
@@ -45,7 +45,7 @@ fn row(name: &str) -> Option<Row> {
         "touch_expiring" => (expiring(12), Op::Touch(5), 0),
         "remove_expiring" => (expiring(12), Op::Remove(5), 0),
         "found_by_a_fetch" => (ROOMY, Op::Ask(5), 0),
-        "reconfigure" => (ROOMY, Op::Reconfigure, 0),
+        "reconfigure" => (ROOMY, Op::Reconfigure(config), 0),
         _ => return None,
     };
     Some(Row { filled, op, evicts })
@@ -70,21 +70,31 @@ pub const SHARD_BY_SHARD: [u64; 12] = [0, 4, 8, 1, 5, 9, 2, 6, 10, 3, 7, 11];
 /// Those of them with even keys.
 pub const EVEN: [u64; 6] = [0, 4, 8, 2, 6, 10];
 
-/// Shows a call of a core, where it has this name. The first ten victims of the policy are these.
-pub fn shown<E: Eviction>(alloc: Global, name: &str, victims: &'static [u64; 10]) -> Option<Shown>
-where
-    E::Config: Default,
-{
-    let row = row(name)?;
-    let wanted = wanted(row, victims);
-    let Ok((mut core, piece)) = prepared::<E>(alloc, row.filled, row.op, wanted.capacity) else {
+const IN_ORDER: [u64; 10] = [0, 1, 2, 3, 4, 5, 6, 7, 8, 9];
+
+const BUT_USED: [u64; 10] = [0, 1, 2, 3, 4, 6, 7, 8, 9, 10];
+
+/// The first ten that leave a core of twelve records, of which the sixth was used.
+pub fn victims(config: &EvictionConfig) -> &'static [u64; 10] {
+    match config {
+        EvictionConfig::Fifo(_) => &IN_ORDER,
+        _ => &BUT_USED,
+    }
+}
+
+/// Shows a call of a core, where it has this name.
+pub fn shown(alloc: Global, config: &EvictionConfig, name: &str) -> Option<Shown> {
+    let row = row(config, name)?;
+    let wanted = wanted(row, victims(config));
+    let made = prepared(alloc, config, row.filled, row.op, wanted.capacity);
+    let Ok((mut core, piece)) = made else {
         return Some(Shown::Early);
     };
     Some(compared(alloc, &mut core, row.op, piece.as_ref(), &wanted))
 }
 
 // What a call is to make of a core.
-fn wanted(row: Row, victims: &'static [u64; 10]) -> Wanted {
+fn wanted(row: Row<'_>, victims: &'static [u64; 10]) -> Wanted {
     let Row { filled, op, evicts } = row;
     let same = Wanted::same(filled);
     let evicting = Wanted {
@@ -161,6 +171,6 @@ fn wanted(row: Row, victims: &'static [u64; 10]) -> Wanted {
             number: Some(key),
             ..same
         },
-        Op::Ask(_) | Op::Touch(_) | Op::Reconfigure => same,
+        Op::Ask(_) | Op::Touch(_) | Op::Reconfigure(_) => same,
     }
 }

@@ -1,20 +1,20 @@
 //! Cores, and how they look.
 
 use foyer_core::{AdmitAll, CacheCore, CacheProperties, Inserted, Leave, RawCacheConfig};
-use foyer_policy::{Eviction, ModHasher, Result};
+use foyer_policy::{AnyEviction, EvictionConfig, ModHasher, Result};
 use foyer_session::{SimValue, SimWeighter};
 use std::alloc::Global;
 
 /// A core whose records weigh what their values say.
-pub type Core<E> = CacheCore<
-    E,
+pub type Core = CacheCore<
+    AnyEviction,
     u64,
     SimValue,
     CacheProperties,
     ModHasher,
     SimWeighter,
     AdmitAll,
-    u64,
+    (),
     u64,
 >;
 
@@ -26,27 +26,36 @@ pub fn weighing(weight: usize) -> SimValue {
     SimValue { value: 7, weight }
 }
 
-/// A core of the default configuration that holds nothing.
-pub fn empty<E: Eviction>(
+/// The configuration of such a core of one shard.
+pub fn one_shard(
+    config: &EvictionConfig,
+    capacity: usize,
+) -> Result<RawCacheConfig<EvictionConfig, ModHasher, SimWeighter, AdmitAll>> {
+    Ok(RawCacheConfig {
+        shards: 1,
+        eviction_config: config.clone()?,
+        ..RawCacheConfig::new(capacity).with_weighter(SimWeighter)
+    })
+}
+
+/// A core that holds nothing.
+pub fn empty(
     alloc: Global,
+    config: &EvictionConfig,
     capacity: usize,
     shards: usize,
     number: u64,
-) -> Result<Core<E>>
-where
-    E::Config: Default,
-{
+) -> Result<Core> {
     let config = RawCacheConfig {
         shards,
-        hash_builder: ModHasher::default(),
         number,
-        ..RawCacheConfig::new(capacity).with_weighter(SimWeighter)
+        ..one_shard(config, capacity)?
     };
     CacheCore::new(alloc, config)
 }
 
 /// Puts records of the keys below `end` in, each of weight 1, which expire then, and lets their entries go.
-pub fn fill<E: Eviction>(core: &mut Core<E>, end: u64, expires: Option<u64>) -> Result<()> {
+pub fn fill(core: &mut Core, end: u64, expires: Option<u64>) -> Result<()> {
     for key in 0..end {
         let properties = CacheProperties::default().with_expiry(expires);
         let made = core.insert_with_properties(0, key, weighing(1), properties)?;
@@ -56,10 +65,7 @@ pub fn fill<E: Eviction>(core: &mut Core<E>, end: u64, expires: Option<u64>) -> 
 }
 
 /// Ends what came in: the record's id, and what left.
-pub fn ended<E: Eviction>(
-    core: &mut Core<E>,
-    made: Inserted<u64, SimValue, CacheProperties, u64>,
-) -> (u64, Leaves) {
+pub fn ended(core: &mut Core, made: Inserted<u64, SimValue, CacheProperties, ()>) -> (u64, Leaves) {
     let Inserted {
         entry,
         answers,
@@ -86,7 +92,7 @@ pub struct Look {
 }
 
 impl Look {
-    pub fn of<E: Eviction>(core: &Core<E>) -> Look {
+    pub fn of(core: &Core) -> Look {
         let look = Look::seen(
             core.usage(),
             core.entries(),

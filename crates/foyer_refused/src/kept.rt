@@ -4,7 +4,7 @@ use crate::call::{Kept, Op, Told, make};
 use crate::cores::{Core, FETCHED, Leaves, Look, empty, ended, fill, weighing};
 use crate::word::Shown;
 use foyer_core::Lookup;
-use foyer_policy::{Event, Eviction, Result};
+use foyer_policy::{Event, EvictionConfig, Result};
 use std::alloc::Global;
 
 /// What a core holds before a call: so many records, from the key 0 on, which may say when they expire, and where `waits`
@@ -81,16 +81,14 @@ impl Wanted {
 
 /// A core before a call, and the piece of a record that the call puts in: of one that it holds, of one that left it, or
 /// of another core's, as the call's key is below 10, below 20, or above. In a core of one shard the key 5 was used.
-pub fn prepared<E: Eviction>(
+pub fn prepared(
     alloc: Global,
+    config: &EvictionConfig,
     filled: Filled,
-    op: Op,
+    op: Op<'_>,
     capacity: usize,
-) -> Result<(Core<E>, Option<Kept>)>
-where
-    E::Config: Default,
-{
-    let mut core = empty::<E>(alloc, filled.capacity, filled.shards, 0)?;
+) -> Result<(Core, Option<Kept>)> {
+    let mut core = empty(alloc, config, filled.capacity, filled.shards, 0)?;
     fill(&mut core, filled.records, filled.expires)?;
     if filled.shards == 1 {
         let _ = core.touch(0, &5)?;
@@ -99,7 +97,7 @@ where
         ask_for(&mut core)?;
     }
     let piece = match op {
-        Op::Piece(key) if key >= 20 => foreign_piece::<E>(alloc, key)?,
+        Op::Piece(key) if key >= 20 => foreign_piece(alloc, config, key)?,
         Op::Piece(key) => piece_of(&mut core, key)?,
         _ => None,
     };
@@ -115,11 +113,8 @@ where
 }
 
 /// Asks for `FETCHED`.
-pub fn ask_for<E: Eviction>(core: &mut Core<E>) -> Result<()>
-where
-    E::Config: Default,
-{
-    match core.get_or_enqueue(0, &FETCHED, None, 0)? {
+pub fn ask_for(core: &mut Core) -> Result<()> {
+    match core.get_or_enqueue(0, &FETCHED, None, ())? {
         Lookup::Hit(entry) => drop(core.drop_entry(entry)),
         Lookup::Lead {
             fetch: _,
@@ -132,21 +127,15 @@ where
 }
 
 // A piece of the record of a key in another core.
-fn foreign_piece<E: Eviction>(alloc: Global, key: u64) -> Result<Option<Kept>>
-where
-    E::Config: Default,
-{
-    let mut other = empty::<E>(alloc, 4, 1, 1)?;
+fn foreign_piece(alloc: Global, config: &EvictionConfig, key: u64) -> Result<Option<Kept>> {
+    let mut other = empty(alloc, config, 4, 1, 1)?;
     let made = other.insert(0, key, weighing(1))?;
     drop(ended(&mut other, made));
     piece_of(&mut other, key)
 }
 
 // A piece of the record of a key.
-fn piece_of<E: Eviction>(core: &mut Core<E>, key: u64) -> Result<Option<Kept>>
-where
-    E::Config: Default,
-{
+fn piece_of(core: &mut Core, key: u64) -> Result<Option<Kept>> {
     let Some(entry) = core.get(0, &key)? else {
         return Ok(None);
     };
@@ -156,16 +145,13 @@ where
 }
 
 /// Makes a call until it is not refused, and compares what stands with what is wanted.
-pub fn compared<E: Eviction>(
+pub fn compared(
     alloc: Global,
-    core: &mut Core<E>,
-    op: Op,
+    core: &mut Core,
+    op: Op<'_>,
     piece: Option<&Kept>,
     wanted: &Wanted,
-) -> Shown
-where
-    E::Config: Default,
-{
+) -> Shown {
     let before = Look::of(core);
     let first = make(alloc, core, op, piece);
     let Some(number) = first.refused else {
@@ -193,16 +179,7 @@ where
 
 // Whether what a call told is all that is wanted, and the core looks so, where it looked so before and so many had
 // left.
-fn settled<E: Eviction>(
-    core: &Core<E>,
-    before: Look,
-    gone: usize,
-    told: &Told,
-    wanted: &Wanted,
-) -> Shown
-where
-    E::Config: Default,
-{
+fn settled(core: &Core, before: Look, gone: usize, told: &Told, wanted: &Wanted) -> Shown {
     let all = gone.saturating_add(told.leaves.len());
     if !begin(&told.leaves, gone, wanted) || all != wanted.leaves.len() {
         return Shown::Wrong("what left");

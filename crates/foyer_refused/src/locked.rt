@@ -7,7 +7,9 @@ mod kept;
 mod notes;
 mod others;
 
+use crate::calls::victims;
 use crate::word::Shown;
+use foyer_policy::EvictionConfig;
 use futures::Future;
 use futures::executor::block_on;
 use futures::task::{Context, Poll};
@@ -21,32 +23,20 @@ pub trait Runtime: Wait + Log + RandomSource + Alloc<A = Global> + Copy + Drop {
 
 impl<H: Wait + Log + RandomSource + Alloc<A = Global> + Copy + Drop> Runtime for H {}
 
-/// A call over a policy, by their names. The first ten victims of the policy are these.
+/// The call of a name, over a policy.
 #[derive(Clone, Copy)]
 struct Case<'a, H: Runtime> {
     rt: H,
-    policy: &'a str,
+    config: &'a EvictionConfig,
     name: &'a str,
-    victims: &'static [u64; 10],
 }
 
 /// Shows the call of this name over this policy, where it is one of these.
-pub fn shown<H: Runtime>(
-    rt: H,
-    policy: &str,
-    name: &str,
-    victims: &'static [u64; 10],
-) -> Option<Shown> {
+pub fn shown<H: Runtime>(rt: H, config: &EvictionConfig, name: &str) -> Option<Shown> {
     if !name.starts_with("locked_") {
         return None;
     }
-    let case = Case {
-        rt,
-        policy,
-        name,
-        victims,
-    };
-    match block_on(&rt, case) {
+    match block_on(&rt, Case { rt, config, name }) {
         Ok(shown) => shown,
         Err(_) => Some(Shown::Early),
     }
@@ -56,17 +46,12 @@ impl<H: Runtime> Future for Case<'_, H> {
     type Output = Option<Shown>;
 
     fn poll(&mut self, cx: &mut Context<'_>) -> Poll<Option<Shown>> {
-        let Case {
-            rt,
-            policy,
-            name,
-            victims,
-        } = *self;
+        let Case { rt, config, name } = *self;
         let Some((filled, call)) = calls::row(name) else {
-            return Poll::Ready(others::shown(rt, policy, name));
+            return Poll::Ready(others::shown(rt, config, name));
         };
-        let wanted = calls::wanted(filled, call, victims);
-        Poll::Ready(Some(match caches::prepared(rt, policy, filled, call) {
+        let wanted = calls::wanted(filled, call, victims(config));
+        Poll::Ready(Some(match caches::prepared(rt, config, filled, call) {
             Ok(mut locked) => kept::compared(cx, &mut locked, call, &wanted),
             Err(_) => Shown::Early,
         }))

@@ -18,7 +18,7 @@ mod sessions;
 mod told;
 mod word;
 
-use foyer_policy::{Eviction, EvictionConfig, Fifo, Lfu, Lru, S3Fifo, Sieve};
+use foyer_policy::EvictionConfig;
 use locked::Runtime;
 use std::alloc::Global;
 use std::env;
@@ -49,61 +49,28 @@ fn words(rt: &HostRuntime) -> Option<Vec<String>> {
 
 fn asked<H: Runtime>(rt: H, words: &[String]) -> Shown {
     match words {
-        [policy, call] => of_name(rt, policy.as_str(), call.as_str()),
+        [policy, call] => of_names(rt, policy.as_str(), call.as_str()),
         [word] if matches!(word.as_str(), "-h" | "--help") => Shown::Usage,
         _ => Shown::Wrong("the arguments"),
     }
 }
 
-// The first ten that leave a core of twelve records, of which the sixth was used.
-const IN_ORDER: [u64; 10] = [0, 1, 2, 3, 4, 5, 6, 7, 8, 9];
-
-const BUT_USED: [u64; 10] = [0, 1, 2, 3, 4, 6, 7, 8, 9, 10];
-
-fn of_name<H: Runtime>(rt: H, policy: &str, call: &str) -> Shown {
-    let victims = if policy == "fifo" {
-        &IN_ORDER
-    } else {
-        &BUT_USED
+fn of_names<H: Runtime>(rt: H, policy: &str, call: &str) -> Shown {
+    let Ok(config) = policy.parse::<EvictionConfig>() else {
+        return Shown::Wrong("the policy");
     };
-    if let Some(shown) = locked::shown(rt, policy, call, victims) {
-        return shown;
-    }
-    match policy {
-        "fifo" => of_policy::<Fifo, H>(rt, call, victims),
-        "lru" => of_policy::<Lru, H>(rt, call, victims),
-        "lfu" => of_policy::<Lfu, H>(rt, call, victims),
-        "s3fifo" => of_policy::<S3Fifo, H>(rt, call, victims),
-        "sieve" => of_policy::<Sieve, H>(rt, call, victims),
-        _ => Shown::Wrong("the policy"),
-    }
+    locked::shown(rt, &config, call)
+        .or_else(|| audited::shown(&rt, &config, call))
+        .or_else(|| of_call(rt.alloc(), &config, call))
+        .unwrap_or(Shown::Wrong("the call"))
 }
 
-// Shows a call over a policy.
-fn of_policy<E: Eviction, H: Runtime>(rt: H, call: &str, victims: &'static [u64; 10]) -> Shown
-where
-    E::Config: Clone + Default + Eq,
-    EvictionConfig: From<E::Config>,
-{
-    let alloc = rt.alloc();
-    if let Some(shown) = audited::shown::<E, H>(&rt, alloc, call) {
-        return shown;
-    }
-    match of_call::<E>(alloc, call, victims) {
-        Some(shown) => shown.or_behind(alloc),
-        None => Shown::Wrong("the call"),
-    }
-}
-
-fn of_call<E: Eviction>(alloc: Global, call: &str, victims: &'static [u64; 10]) -> Option<Shown>
-where
-    E::Config: Default,
-    EvictionConfig: From<E::Config>,
-{
-    calls::shown::<E>(alloc, call, victims)
-        .or_else(|| others::shown::<E>(alloc, call, victims))
+fn of_call(alloc: Global, config: &EvictionConfig, call: &str) -> Option<Shown> {
+    calls::shown(alloc, config, call)
+        .or_else(|| others::shown(alloc, config, call))
         .or_else(|| parts::shown(alloc, call))
-        .or_else(|| policies::shown::<E>(alloc, call))
-        .or_else(|| sessions::shown::<E>(alloc, call))
-        .or_else(|| told::shown::<E>(alloc, call))
+        .or_else(|| policies::shown(alloc, config, call))
+        .or_else(|| sessions::shown(alloc, config, call))
+        .or_else(|| told::shown(alloc, config, call))
+        .map(|shown| shown.or_behind(alloc))
 }

@@ -1,57 +1,49 @@
 //! The calls of a core that hand out more than leaves: a new core and the end of a fetch.
 
 use crate::call::{Op, make};
+use crate::calls::victims;
 use crate::cores::{Core, FETCHED, Leaves, Look, empty, weighing};
 use crate::kept::{WAITED, Wanted, ask_for, begin, prepared};
 use crate::word::Shown;
 use foyer_core::{CacheProperties, Ended, FetchTarget, InsertedOnto, Outcome};
-use foyer_policy::{Eviction, Result, Source};
+use foyer_policy::{EvictionConfig, Result, Source};
 use std::alloc::Global;
 
 mod asked;
 
-/// Shows the call of this name, where it is one of these. The first ten victims of the policy are these.
-pub fn shown<E: Eviction>(alloc: Global, name: &str, victims: &'static [u64; 10]) -> Option<Shown>
-where
-    E::Config: Default,
-{
+/// Shows the call of this name, where it is one of these.
+pub fn shown(alloc: Global, config: &EvictionConfig, name: &str) -> Option<Shown> {
     match name {
-        "new_1" => Some(opened::<E>(alloc, 1)),
-        "new_4" => Some(opened::<E>(alloc, 4)),
+        "new_1" => Some(opened(alloc, config, 1)),
+        "new_4" => Some(opened(alloc, config, 4)),
         "complete" | "resize_then_insert" | "insert_onto_evicts_10" | "cancel" => {
-            Some(changed::<E>(alloc, name, victims))
+            Some(changed(alloc, config, name))
         }
         "clone_handle" | "piece" | "owns" | "refs" | "is_outdated" | "sums" => {
-            Some(asked::asked::<E>(alloc, name))
+            Some(asked::asked(alloc, config, name))
         }
         _ => None,
     }
 }
 
 // A full core, with one who waits.
-fn waited<E: Eviction>(alloc: Global) -> Result<Core<E>>
-where
-    E::Config: Default,
-{
-    Ok(prepared::<E>(alloc, WAITED, Op::Clear, 12)?.0)
+fn waited(alloc: Global, config: &EvictionConfig) -> Result<Core> {
+    Ok(prepared(alloc, config, WAITED, Op::Clear, 12)?.0)
 }
 
 // The first victims leave, in order.
-fn evicting(victims: &'static [u64; 10]) -> Wanted {
+fn evicting(config: &EvictionConfig) -> Wanted {
     Wanted {
-        leaves: victims,
+        leaves: victims(config),
         ..Wanted::same(WAITED)
     }
 }
 
-fn changed<E: Eviction>(alloc: Global, name: &str, victims: &'static [u64; 10]) -> Shown
-where
-    E::Config: Default,
-{
-    let Ok(mut core) = waited::<E>(alloc) else {
+fn changed(alloc: Global, config: &EvictionConfig, name: &str) -> Shown {
+    let Ok(mut core) = waited(alloc, config) else {
         return Shown::Early;
     };
-    let wanted = evicting(victims);
+    let wanted = evicting(config);
     match name {
         "complete" => completed(&mut core, &wanted),
         "cancel" => cancelled(&mut core),
@@ -61,12 +53,9 @@ where
 }
 
 // A new core. Nothing is left of one that was refused.
-fn opened<E: Eviction>(alloc: Global, shards: usize) -> Shown
-where
-    E::Config: Default,
-{
-    let (made, shown) = match empty::<E>(alloc, 10, shards, 0) {
-        Err(error) if error.number() == 7 => (empty::<E>(alloc, 10, shards, 0), Shown::Kept),
+fn opened(alloc: Global, config: &EvictionConfig, shards: usize) -> Shown {
+    let (made, shown) = match empty(alloc, config, 10, shards, 0) {
+        Err(error) if error.number() == 7 => (empty(alloc, config, 10, shards, 0), Shown::Kept),
         made => (made, Shown::Done),
     };
     match made {
@@ -88,10 +77,7 @@ struct Ending {
     leaves: Leaves,
 }
 
-fn complete<E: Eviction>(core: &mut Core<E>, fetch: u64) -> Ending
-where
-    E::Config: Default,
-{
+fn complete(core: &mut Core, fetch: u64) -> Ending {
     let target = FetchTarget::Entry {
         value: weighing(4),
         properties: CacheProperties::default(),
@@ -117,10 +103,7 @@ where
 
 // A fetch completes with a value, for which four records leave. Where that is refused its place is closed, who waits is
 // told so, and some of them have left; the next fetch then completes.
-fn completed<E: Eviction>(core: &mut Core<E>, wanted: &Wanted) -> Shown
-where
-    E::Config: Default,
-{
+fn completed(core: &mut Core, wanted: &Wanted) -> Shown {
     let before = Look::of(core);
     let first = complete(core, 0);
     if !first.found || first.token != Some(0) || !begin(&first.leaves, 0, wanted) {
@@ -141,15 +124,7 @@ where
 }
 
 // The same of the next fetch, once so many have left.
-fn completed_again<E: Eviction>(
-    core: &mut Core<E>,
-    before: Look,
-    gone: usize,
-    wanted: &Wanted,
-) -> Shown
-where
-    E::Config: Default,
-{
+fn completed_again(core: &mut Core, before: Look, gone: usize, wanted: &Wanted) -> Shown {
     if complete(core, 0).found {
         return Shown::Wrong("a fetch ended twice");
     }
@@ -169,10 +144,7 @@ where
 }
 
 // A resize that is refused has set the capacity: an insert evicts the rest, and what gives way to it.
-fn resized<E: Eviction>(alloc: Global, core: &mut Core<E>, wanted: &Wanted) -> Shown
-where
-    E::Config: Default,
-{
+fn resized(alloc: Global, core: &mut Core, wanted: &Wanted) -> Shown {
     let before = Look::of(core);
     let first = make(alloc, core, Op::Resize(3), None);
     if !begin(&first.leaves, 0, wanted) {
@@ -191,10 +163,7 @@ where
 }
 
 // The insert behind that, once so many have left.
-fn inserted<E: Eviction>(alloc: Global, core: &mut Core<E>, gone: usize, wanted: &Wanted) -> Shown
-where
-    E::Config: Default,
-{
+fn inserted(alloc: Global, core: &mut Core, gone: usize, wanted: &Wanted) -> Shown {
     let told = make(alloc, core, Op::Insert(50, 1), None);
     let all = gone.saturating_add(told.leaves.len());
     if told.refused.is_some() || all != 10 || !begin(&told.leaves, gone, wanted) {
@@ -208,10 +177,7 @@ where
 
 // An insert that appends what leaves to a list with room for it. Where it is refused, the same insert goes on with the
 // list.
-fn lent<E: Eviction>(alloc: Global, core: &mut Core<E>, wanted: &Wanted) -> Shown
-where
-    E::Config: Default,
-{
+fn lent(alloc: Global, core: &mut Core, wanted: &Wanted) -> Shown {
     let Ok(mut leaves) = Vec::with_capacity(alloc, 16) else {
         return Shown::Early;
     };
@@ -229,10 +195,7 @@ where
 }
 
 // Puts a record of weight 10 in. Answers the number of its refusal.
-fn put_onto<E: Eviction>(core: &mut Core<E>, leaves: &mut Leaves) -> Option<u8>
-where
-    E::Config: Default,
-{
+fn put_onto(core: &mut Core, leaves: &mut Leaves) -> Option<u8> {
     match core.insert_with_properties_onto(
         0,
         50,
@@ -250,16 +213,7 @@ where
 }
 
 // What that record made of the core and of the list.
-fn appended<E: Eviction>(
-    core: &Core<E>,
-    before: Look,
-    leaves: &Leaves,
-    wanted: &Wanted,
-    shown: Shown,
-) -> Shown
-where
-    E::Config: Default,
-{
+fn appended(core: &Core, before: Look, leaves: &Leaves, wanted: &Wanted, shown: Shown) -> Shown {
     if leaves.len() != 10 || !begin(leaves, 0, wanted) {
         return Shown::Wrong("what is in the list");
     }
@@ -270,10 +224,7 @@ where
 }
 
 // The end of a fetch without a value, which takes no memory.
-fn cancelled<E: Eviction>(core: &mut Core<E>) -> Shown
-where
-    E::Config: Default,
-{
+fn cancelled(core: &mut Core) -> Shown {
     let Ended {
         found,
         answers,

@@ -2,34 +2,27 @@
 
 use crate::parts::twice;
 use crate::word::Shown;
-use foyer_policy::{Eviction, Hint, Item, Result};
+use foyer_policy::{AnyEviction, Eviction, EvictionConfig, Hint, Item, Result};
 use std::alloc::Global;
 
 /// Shows the call of this name, where it is one of these.
-pub fn shown<E: Eviction>(alloc: Global, name: &str) -> Option<Shown>
-where
-    E::Config: Default,
-{
+pub fn shown(alloc: Global, config: &EvictionConfig, name: &str) -> Option<Shown> {
     match name {
-        "policy_new" => Some(opened::<E>(alloc)),
-        "policy_reserve" => Some(asked::<E, _>(alloc, |policy| policy.reserve())),
-        "policy_reserve_clear" => Some(asked::<E, _>(alloc, |policy| policy.reserve_clear())),
-        "policy_order" => Some(asked::<E, _>(alloc, |policy| policy.order().map(|_| ()))),
-        "policy_pop" => Some(asked::<E, _>(alloc, |policy| policy.pop().map(|_| ()))),
-        "policy_clear" => Some(cleared::<E>(alloc)),
-        "policy_uses" => Some(used::<E>(alloc)),
+        "policy_new" => Some(opened(alloc, config)),
+        "policy_reserve" => Some(asked(alloc, config, |policy| policy.reserve())),
+        "policy_reserve_clear" => Some(asked(alloc, config, |policy| policy.reserve_clear())),
+        "policy_order" => Some(asked(alloc, config, |policy| policy.order().map(|_| ()))),
+        "policy_pop" => Some(asked(alloc, config, |policy| policy.pop().map(|_| ()))),
+        "policy_clear" => Some(cleared(alloc, config)),
+        "policy_uses" => Some(used(alloc, config)),
         _ => None,
     }
 }
 
-fn opened<E: Eviction>(alloc: Global) -> Shown
-where
-    E::Config: Default,
-{
-    let config = E::Config::default();
+fn opened(alloc: Global, config: &EvictionConfig) -> Shown {
     twice(
         &mut (),
-        |_| E::new(alloc, 100, &config).map(|_| ()),
+        |_| AnyEviction::new(alloc, 100, config).map(|_| ()),
         |_| true,
     )
 }
@@ -45,11 +38,8 @@ fn item(id: u64) -> Item {
 }
 
 // A policy of capacity 12 with four items, whose lists have no room.
-fn filled<E: Eviction>(alloc: Global) -> Result<E>
-where
-    E::Config: Default,
-{
-    let mut policy = E::new(alloc, 12, &E::Config::default())?;
+fn filled(alloc: Global, config: &EvictionConfig) -> Result<AnyEviction> {
+    let mut policy = AnyEviction::new(alloc, 12, config)?;
     for id in 0..4 {
         policy.reserve()?;
         let _ = policy.push(item(id));
@@ -58,11 +48,12 @@ where
 }
 
 // A policy that refuses has the same order, and answers the same call then.
-fn asked<E: Eviction, C: Fn(&mut E) -> Result<()>>(alloc: Global, call: C) -> Shown
-where
-    E::Config: Default,
-{
-    let Ok(mut policy) = filled::<E>(alloc) else {
+fn asked<C: Fn(&mut AnyEviction) -> Result<()>>(
+    alloc: Global,
+    config: &EvictionConfig,
+    call: C,
+) -> Shown {
+    let Ok(mut policy) = filled(alloc, config) else {
         return Shown::Early;
     };
     let Ok(before) = policy.order() else {
@@ -76,11 +67,8 @@ where
 }
 
 // A clear behind its room takes no memory.
-fn cleared<E: Eviction>(alloc: Global) -> Shown
-where
-    E::Config: Default,
-{
-    let Ok(mut policy) = filled::<E>(alloc) else {
+fn cleared(alloc: Global, config: &EvictionConfig) -> Shown {
+    let Ok(mut policy) = filled(alloc, config) else {
         return Shown::Early;
     };
     let Ok(()) = policy.reserve_clear() else {
@@ -94,11 +82,8 @@ where
 }
 
 // What takes no memory once there is room for an item.
-fn used<E: Eviction>(alloc: Global) -> Shown
-where
-    E::Config: Default,
-{
-    let Ok(mut policy) = filled::<E>(alloc) else {
+fn used(alloc: Global, config: &EvictionConfig) -> Shown {
+    let Ok(mut policy) = filled(alloc, config) else {
         return Shown::Early;
     };
     let Ok(()) = policy.reserve() else {
@@ -108,7 +93,7 @@ where
     let place = policy.push(one);
     policy.acquire(place);
     policy.release(place);
-    let updated = policy.update(12, Some(&E::Config::default())).is_ok();
+    let updated = policy.update(12, Some(config)).is_ok();
     if updated && policy.remove(place) == one {
         return Shown::Done;
     }

@@ -1,16 +1,16 @@
 //! The commands of a session, and sessions that run lines.
 
-use crate::cores::weighing;
+use crate::cores::{one_shard, weighing};
 use crate::word::Shown;
-use foyer_core::{AdmitAll, CacheCore, CacheProperties, Limits, RawCacheConfig};
-use foyer_policy::{Error, Eviction, Fault, ModHasher, Reason, Result, Source};
+use foyer_core::{AdmitAll, CacheCore, CacheProperties};
+use foyer_policy::{AnyEviction, Error, EvictionConfig, Fault, ModHasher, Reason, Result, Source};
 use foyer_session::{Answer, Command, End, Predicate, Reply, Session, SimValue, SimWeighter};
 use std::alloc::Global;
 use std::sync::Arc;
 
 /// A session over the values of a program.
-pub type Simulated<E> = Session<
-    E,
+pub type Simulated = Session<
+    AnyEviction,
     u64,
     SimValue,
     CacheProperties,
@@ -20,13 +20,28 @@ pub type Simulated<E> = Session<
 >;
 
 /// A command of it.
-pub type Asked<E> = Command<u64, SimValue, CacheProperties, EvenKeys, <E as Eviction>::Config>;
+pub type Asked = Command<u64, SimValue, CacheProperties, EvenKeys, EvictionConfig>;
 
 /// What it answers.
 pub type Told = Reply<u64, SimValue, CacheProperties>;
 
-/// With what a fetch fails.
-pub type Shared = Arc<Fault, Global>;
+/// What commands are made of: the policy's configuration, and the fault with which a fetch fails.
+#[derive(Drop)]
+pub struct Inputs<'a> {
+    pub config: &'a EvictionConfig,
+    fault: Arc<Fault>,
+}
+
+impl<'a> Inputs<'a> {
+    pub fn new(alloc: Global, config: &'a EvictionConfig) -> Result<Self> {
+        let fault = Fault {
+            code: 5,
+            message: String::new(alloc),
+        };
+        let fault = Arc::new(alloc, fault).map_err(|_| Error::new(Reason::NoMemory))?;
+        Ok(Inputs { config, fault })
+    }
+}
 
 /// Picks even keys.
 #[derive(Clone, Copy, PartialEq, Eq)]
@@ -42,23 +57,10 @@ impl Predicate<u64, SimValue> for EvenKeys {
     }
 }
 
-/// A session over an empty core of one shard, with this configuration of its policy.
-pub fn empty<E: Eviction>(
-    alloc: Global,
-    capacity: usize,
-    eviction_config: E::Config,
-) -> Result<Simulated<E>> {
-    let config = RawCacheConfig {
-        capacity,
-        shards: 1,
-        eviction_config,
-        hash_builder: ModHasher::default(),
-        weighter: SimWeighter,
-        filter: AdmitAll,
-        number: 0,
-        limits: Limits::default(),
-    };
-    Ok(Session::new(alloc, CacheCore::new(alloc, config)?))
+/// A session over an empty core of one shard, of capacity 4.
+pub fn empty(alloc: Global, config: &EvictionConfig) -> Result<Simulated> {
+    let core = CacheCore::new(alloc, one_shard(config, 4)?)?;
+    Ok(Session::new(alloc, core))
 }
 
 /// What a command answers.
@@ -83,14 +85,10 @@ pub struct Wanted {
     pub usage: u128,
 }
 
-/// The command of a name, in a session of capacity 4 whose records are the keys 0 to 3, and what is wanted of it. A
-/// fetch fails with this fault.
-pub fn command<E: Eviction>(name: &str, fault: &Shared) -> Option<(Asked<E>, Wanted)>
-where
-    E::Config: Default,
-{
+/// The command of a name, in a session of capacity 4 whose records are the keys 0 to 3, and what is wanted of it.
+pub fn command(inputs: &Inputs<'_>, name: &str) -> Option<(Asked, Wanted)> {
     let (command, kind, leaves, usage) = match name {
-        "step_insert" | "run" => (inserting::<E>(7), Kind::Entry, 1, 4),
+        "step_insert" | "run" => (inserting(7), Kind::Entry, 1, 4),
         "step_insert_piece" => (Command::InsertPiece(0, 0), Kind::Entry, 0, 4),
         "step_get" => (Command::Get(0, 2), Kind::Found, 0, 4),
         "step_contains" => (Command::Contains(0, 2), Kind::Yes, 0, 4),
@@ -108,7 +106,7 @@ where
             (Command::Complete(0, 9, 0, end), Kind::Answered, 1, 4)
         }
         "step_fail" => {
-            let fault = Arc::try_clone(fault).ok()?;
+            let fault = Arc::try_clone(&inputs.fault).ok()?;
             (Command::Fail(9, 0, fault), Kind::Answered, 0, 4)
         },
         "step_cancel" => (Command::Cancel(9, 0), Kind::Answered, 0, 4),
@@ -119,7 +117,7 @@ where
         "step_flush_if" => (Command::FlushIf(EvenKeys), Kind::Done, 2, 2),
         "step_resize" => (Command::Resize(0, 2), Kind::Done, 2, 2),
         "step_reconfigure" => {
-            let config = E::Config::default();
+            let config = inputs.config.clone().ok()?;
             (Command::Reconfigure(config), Kind::Done, 0, 4)
         }
         "step_capacity" => (Command::Capacity, Kind::Number, 0, 4),
@@ -136,48 +134,33 @@ where
 }
 
 /// The insert of a key.
-pub fn inserting<E: Eviction>(key: u64) -> Asked<E> {
+pub fn inserting(key: u64) -> Asked {
     Command::Insert(0, key, weighing(1), CacheProperties::default())
 }
 
 /// Shows the command of this name, where there is one.
-pub fn shown<E: Eviction>(alloc: Global, name: &str) -> Option<Shown>
-where
-    E::Config: Default,
-{
+pub fn shown(alloc: Global, config: &EvictionConfig, name: &str) -> Option<Shown> {
     if !name.starts_with("step_") && name != "run" {
         return None;
     }
-    let Ok(mut session) = prepared::<E>(alloc) else {
+    let Ok(mut session) = prepared(alloc, config) else {
         return Some(Shown::Early);
     };
-    let Ok(fault) = fault(alloc) else {
+    let Ok(inputs) = Inputs::new(alloc, config) else {
         return Some(Shown::Early);
     };
-    stepped(alloc, &mut session, name, &fault)
+    stepped(alloc, &mut session, &inputs, name)
 }
 
 // The keys 0 to 3 are in, with the handles 0 to 3, the piece 0 is of the key 0, and one waits for the key 9.
-fn prepared<E: Eviction>(alloc: Global) -> Result<Simulated<E>>
-where
-    E::Config: Default,
-{
-    let mut session = empty::<E>(alloc, 4, E::Config::default())?;
+fn prepared(alloc: Global, config: &EvictionConfig) -> Result<Simulated> {
+    let mut session = empty(alloc, config)?;
     for key in 0..4u64 {
-        granted(session.step(inserting::<E>(key))?)?;
+        granted(session.step(inserting(key))?)?;
     }
     granted(session.step::<EvenKeys>(Command::TakePiece(0))?)?;
     granted(session.step::<EvenKeys>(Command::GetOrFetch(0, 9, None))?)?;
     Ok(session)
-}
-
-/// With what a fetch fails.
-pub fn fault(alloc: Global) -> Result<Shared> {
-    let fault = Fault {
-        code: 5,
-        message: String::new(alloc),
-    };
-    Arc::new(alloc, fault).map_err(|_| Error::new(Reason::NoMemory))
 }
 
 /// What a reply refuses.
@@ -201,12 +184,7 @@ pub struct Step {
 }
 
 // Makes a command, or a run of it alone.
-fn make<E: Eviction>(
-    alloc: Global,
-    session: &mut Simulated<E>,
-    command: Asked<E>,
-    runs: bool,
-) -> Step {
+fn make(alloc: Global, session: &mut Simulated, command: Asked, runs: bool) -> Step {
     let told = if runs {
         run(alloc, session, command)
     } else {
@@ -221,7 +199,7 @@ fn make<E: Eviction>(
     })
 }
 
-fn run<E: Eviction>(alloc: Global, session: &mut Simulated<E>, command: Asked<E>) -> Result<Step> {
+fn run(alloc: Global, session: &mut Simulated, command: Asked) -> Result<Step> {
     let mut commands = Vec::new(alloc);
     commands.push(command)?;
     let replies = session.run(commands)?;
@@ -270,17 +248,14 @@ fn answered(answer: &Answer<u64, SimValue, CacheProperties>) -> (Option<Kind>, O
 }
 
 // Makes the command of a name until it is not refused, and compares the sums with those that are wanted.
-fn stepped<E: Eviction>(
+fn stepped(
     alloc: Global,
-    session: &mut Simulated<E>,
+    session: &mut Simulated,
+    inputs: &Inputs<'_>,
     name: &str,
-    fault: &Shared,
-) -> Option<Shown>
-where
-    E::Config: Default,
-{
+) -> Option<Shown> {
     let runs = name == "run";
-    let (asked, wanted) = command::<E>(name, fault)?;
+    let (asked, wanted) = command(inputs, name)?;
     let first = make(alloc, session, asked, runs);
     let Some(number) = first.refused else {
         return Some(settled(session, wanted, first, 0));
@@ -298,13 +273,13 @@ where
     if first.kind == Some(Kind::Answered) {
         return Some(Shown::Kept);
     }
-    let (asked, _) = command::<E>(name, fault)?;
+    let (asked, _) = command(inputs, name)?;
     let second = make(alloc, session, asked, runs);
     Some(settled(session, wanted, second, first.leaves).behind_a_refusal())
 }
 
 // Whether a command answered what is wanted, once so many had left.
-fn settled<E: Eviction>(session: &Simulated<E>, wanted: Wanted, step: Step, gone: usize) -> Shown {
+fn settled(session: &Simulated, wanted: Wanted, step: Step, gone: usize) -> Shown {
     if step.refused.is_some() || step.kind != Some(wanted.kind) {
         return Shown::Wrong("the answer");
     }

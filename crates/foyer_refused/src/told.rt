@@ -3,7 +3,7 @@
 use crate::sessions::{Simulated, empty};
 use crate::word::Shown;
 use foyer_core::Stats;
-use foyer_policy::{AnyEviction, Eviction, EvictionConfig};
+use foyer_policy::EvictionConfig;
 use foyer_session::simulate;
 use std::alloc::Global;
 
@@ -53,16 +53,11 @@ const LAST: &[u8] = b"no | - | usage 0 entries 0
 const COUNT: usize = 17;
 
 /// Shows a run over lines, where that is the name.
-pub fn shown<E: Eviction>(alloc: Global, name: &str) -> Option<Shown>
-where
-    E::Config: Default,
-    EvictionConfig: From<E::Config>,
-{
+pub fn shown(alloc: Global, config: &EvictionConfig, name: &str) -> Option<Shown> {
     if name != "simulate" {
         return None;
     }
-    let config = EvictionConfig::from(E::Config::default());
-    let Ok(mut session) = empty(alloc, 4, config) else {
+    let Ok(mut session) = empty(alloc, config) else {
         return Some(Shown::Early);
     };
     let Ok(mut written) = Vec::with_capacity(alloc, 4096) else {
@@ -71,7 +66,7 @@ where
     Some(run(&mut session, &mut written))
 }
 
-fn run(session: &mut Simulated<AnyEviction>, written: &mut Vec<u8>) -> Shown {
+fn run(session: &mut Simulated, written: &mut Vec<u8>) -> Shown {
     let mut lines = LINES;
     if simulate(&mut lines, written, session, &mut Stats::default()).is_err() {
         return Shown::Wrong("the run");

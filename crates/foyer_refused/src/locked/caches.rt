@@ -7,11 +7,8 @@ use crate::call::Kept;
 use crate::cores::{FETCHED, Look, weighing};
 use crate::kept::Filled;
 use foyer_core::{AdmitAll, CacheProperties, FetchTarget};
-use foyer_memory::{
-    Cache, CacheBuilder, CacheEntry, EvictionConfig, FetchTask, FifoConfig, GetOrFetch, LfuConfig,
-    LruConfig, S3FifoConfig, SieveConfig,
-};
-use foyer_policy::{Fault, ModHasher, Result};
+use foyer_memory::{Cache, CacheBuilder, CacheEntry, FetchTask, GetOrFetch};
+use foyer_policy::{EvictionConfig, Fault, ModHasher, Result};
 use foyer_raw::{Direct, ListSpawner};
 use foyer_session::{SimValue, SimWeighter};
 use futures::future::{Ready, ready};
@@ -33,6 +30,9 @@ pub type Shared<H> = Cache<
     Tube,
     Direct<Fetch>,
 >;
+
+/// A builder of it.
+pub type Builder = CacheBuilder<u64, SimValue, ModHasher, SimWeighter, AdmitAll, Ear>;
 
 /// An entry of it.
 pub type Entry<H> = CacheEntry<
@@ -91,36 +91,32 @@ pub struct Locked<H: Runtime> {
     pub tasks: Tasks<H>,
     /// What an insert or a fetch of a piece puts in.
     pub piece: Option<Kept>,
-    /// What the policy is reconfigured with.
-    pub config: Option<EvictionConfig>,
+    /// The configuration of its policy.
+    pub config: EvictionConfig,
 }
 
-// The default configuration of the policy of a name.
-fn config(policy: &str) -> EvictionConfig {
-    match policy {
-        "fifo" => EvictionConfig::from(FifoConfig {}),
-        "lru" => EvictionConfig::from(LruConfig::default()),
-        "lfu" => EvictionConfig::from(LfuConfig::default()),
-        "s3fifo" => EvictionConfig::from(S3FifoConfig::default()),
-        _ => EvictionConfig::from(SieveConfig),
-    }
+/// A builder of an empty cache that writes to these notes.
+pub fn builder(config: &EvictionConfig, filled: Filled, notes: &Notes) -> Result<Builder> {
+    Ok(
+        CacheBuilder::new(filled.capacity)
+            .with_shards(filled.shards)
+            .with_eviction_config(config.clone()?)
+            .with_hash_builder(ModHasher::default())
+            .with_weighter(SimWeighter)
+            .with_event_listener(Ear(notes.share()?)),
+    )
 }
 
 /// A cache that holds nothing and has no pipe yet.
 pub fn empty<H: Runtime>(
     rt: H,
-    policy: &str,
+    config: &EvictionConfig,
     filled: Filled,
     number: u64,
     notes: &Notes,
 ) -> Result<Shared<H>> {
-    CacheBuilder::new(filled.capacity)
-        .with_shards(filled.shards)
+    builder(config, filled, notes)?
         .with_number(number)
-        .with_eviction_config(config(policy))
-        .with_hash_builder(ModHasher::default())
-        .with_weighter(SimWeighter)
-        .with_event_listener(Ear(notes.share()?))
         .build(rt, rt.alloc(), &rt)
 }
 
@@ -135,10 +131,15 @@ pub fn look<H: Runtime>(cache: &Shared<H>) -> Look {
 }
 
 /// A cache with a pipe before a call. In one shard the key 5 was used.
-pub fn prepared<H: Runtime>(rt: H, policy: &str, filled: Filled, call: Call) -> Result<Locked<H>> {
+pub fn prepared<H: Runtime>(
+    rt: H,
+    config: &EvictionConfig,
+    filled: Filled,
+    call: Call,
+) -> Result<Locked<H>> {
     let notes = Notes::new(rt.alloc())?;
     let pipe = Arc::new(rt.alloc(), Tube(notes.share()?))?;
-    let cache = empty(rt, policy, filled, 0, &notes)?.with_pipe(pipe);
+    let cache = empty(rt, config, filled, 0, &notes)?.with_pipe(pipe);
     let kept = if filled.shards == 1 { 5 } else { 11 };
     let mut held = None;
     for key in 0..filled.records {
@@ -158,10 +159,10 @@ pub fn prepared<H: Runtime>(rt: H, policy: &str, filled: Filled, call: Call) -> 
         waits: None,
         tasks: ListSpawner::new(rt.alloc()),
         piece: None,
-        config: Some(config(policy)),
+        config: config.clone()?,
     };
     if let Call::Piece(key) | Call::CompletePiece(key) = call {
-        locked.piece = locked.piece_of(policy, filled, key)?;
+        locked.piece = locked.piece_of(filled, key)?;
     }
     if filled.waits {
         locked.ask_twice(call)?;
@@ -199,9 +200,9 @@ impl<H: Runtime> Locked<H> {
 
     // A piece of a record that is in, of one that left, or of another cache's, as the key is below 10, below 20, or
     // above. Where one left a full cache, the cache is full without it.
-    fn piece_of(&self, policy: &str, filled: Filled, key: u64) -> Result<Option<Kept>> {
+    fn piece_of(&self, filled: Filled, key: u64) -> Result<Option<Kept>> {
         if key >= 20 {
-            let other = empty(self.rt, policy, filled, 1, &self.notes)?;
+            let other = empty(self.rt, &self.config, filled, 1, &self.notes)?;
             let piece = other.insert(0, key, weighing(1))?.piece()?;
             other.clear()?;
             return Ok(Some(piece));

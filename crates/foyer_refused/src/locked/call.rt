@@ -89,10 +89,7 @@ pub fn make<H: Runtime>(
         Call::Clear => cache.clear()?,
         Call::Flush => return flushed(cache.flush(0).poll(cx)),
         Call::FlushIf => return flushed(cache.flush_if(|key, _| *key % 2 == 0).poll(cx)),
-        Call::Reconfigure => match locked.config.take() {
-            Some(config) => cache.reconfigure(config)?,
-            None => return Ok(Answer::Odd),
-        },
+        Call::Reconfigure => cache.reconfigure(locked.config.clone()?)?,
         Call::Complete | Call::CompletePiece(_) | Call::Fail | Call::Cancel => {
             return ended(cx, locked, call);
         }

@@ -1,30 +1,29 @@
 //! A new cache behind locks, its end, and inserts: behind a refused resize, and without an id.
 
 use super::Runtime;
-use super::caches::{Locked, Shared, empty, look, prepared};
+use super::caches::{Locked, Shared, builder, empty, look, prepared};
 use super::call::Call;
 use super::notes::{Note, Notes};
 use crate::cores::weighing;
-use crate::kept::{Filled, SHARDED};
+use crate::kept::{Filled, ROOMY, SHARDED};
 use crate::word::Shown;
-use foyer_core::{AdmitAll, Limits, RawCacheConfig, UnitWeighter};
-use foyer_policy::{Event, Fifo, FifoConfig, ModHasher, Result};
-use foyer_raw::{NoListener, RawCache};
+use foyer_core::Limits;
+use foyer_policy::{Event, EvictionConfig, Result};
 
 /// Shows the call of this name, where it is one of these.
-pub fn shown<H: Runtime>(rt: H, policy: &str, name: &str) -> Option<Shown> {
+pub fn shown<H: Runtime>(rt: H, config: &EvictionConfig, name: &str) -> Option<Shown> {
     match name {
-        "locked_new_1" => Some(opened(rt, policy, 1)),
-        "locked_new_4" => Some(opened(rt, policy, 4)),
-        "locked_resize_then_insert" => Some(resized(rt, policy)),
-        "locked_drop" => Some(dropped(rt, policy)),
-        "locked_insert_without_ids" => Some(without_ids(rt)),
+        "locked_new_1" => Some(opened(rt, config, 1)),
+        "locked_new_4" => Some(opened(rt, config, 4)),
+        "locked_resize_then_insert" => Some(resized(rt, config)),
+        "locked_drop" => Some(dropped(rt, config)),
+        "locked_insert_without_ids" => Some(without_ids(rt, config)),
         _ => None,
     }
 }
 
 // A new cache. Nothing is left of one that was refused.
-fn opened<H: Runtime>(rt: H, policy: &str, shards: usize) -> Shown {
+fn opened<H: Runtime>(rt: H, config: &EvictionConfig, shards: usize) -> Shown {
     let filled = Filled {
         shards,
         capacity: 10,
@@ -33,10 +32,10 @@ fn opened<H: Runtime>(rt: H, policy: &str, shards: usize) -> Shown {
     let Ok(notes) = Notes::new(rt.alloc()) else {
         return Shown::Early;
     };
-    let made = empty(rt, policy, filled, 0, &notes);
+    let made = empty(rt, config, filled, 0, &notes);
     let is_refused = matches!(&made, Err(error) if error.number() == 7);
     let made = if is_refused {
-        empty(rt, policy, filled, 0, &notes)
+        empty(rt, config, filled, 0, &notes)
     } else {
         made
     };
@@ -55,8 +54,8 @@ fn is_sound<H: Runtime>(made: &Result<Shared<H>>, shards: usize) -> bool {
 }
 
 // A resize that is refused has set the capacities of all shards: an insert into the last one evicts what is over.
-fn resized<H: Runtime>(rt: H, policy: &str) -> Shown {
-    let Ok(locked) = prepared(rt, policy, SHARDED, Call::Resize(4)) else {
+fn resized<H: Runtime>(rt: H, config: &EvictionConfig) -> Shown {
+    let Ok(locked) = prepared(rt, config, SHARDED, Call::Resize(4)) else {
         return Shown::Early;
     };
     match locked.cache.resize(0, 4) {
@@ -88,8 +87,8 @@ fn resized<H: Runtime>(rt: H, policy: &str) -> Shown {
 }
 
 // The last owner's drop tells each record that is in once, whether there is memory for their order or not.
-fn dropped<H: Runtime>(rt: H, policy: &str) -> Shown {
-    let Ok(locked) = prepared(rt, policy, SHARDED, Call::Clear) else {
+fn dropped<H: Runtime>(rt: H, config: &EvictionConfig) -> Shown {
+    let Ok(locked) = prepared(rt, config, SHARDED, Call::Clear) else {
         return Shown::Early;
     };
     let Locked {
@@ -114,20 +113,22 @@ fn dropped<H: Runtime>(rt: H, policy: &str) -> Shown {
 }
 
 // An insert for which no id is left is refused for that, also where there is no memory for its record.
-fn without_ids<H: Runtime>(rt: H) -> Shown {
-    let config: RawCacheConfig<FifoConfig, ModHasher, UnitWeighter, AdmitAll> = RawCacheConfig {
-        limits: Limits {
-            ids: 0,
-            ..Limits::default()
-        },
-        ..RawCacheConfig::new(4)
-    };
-    let made = RawCache::new(rt, rt.alloc(), config, NoListener::new());
-    let Ok(cache): Result<RawCache<H, Fifo, u64, u64, ModHasher>> = made else {
+fn without_ids<H: Runtime>(rt: H, config: &EvictionConfig) -> Shown {
+    let Ok(cache) = cache_without_ids(rt, config) else {
         return Shown::Early;
     };
-    match cache.insert(0, 1, 10) {
+    match cache.insert(0, 1, weighing(1)) {
         Err(error) if error.number() == 10 => Shown::Done,
         _ => Shown::Wrong("the refusal of an insert without an id"),
     }
+}
+
+fn cache_without_ids<H: Runtime>(rt: H, config: &EvictionConfig) -> Result<Shared<H>> {
+    let limits = Limits {
+        ids: 0,
+        ..Limits::default()
+    };
+    builder(config, ROOMY, &Notes::new(rt.alloc())?)?
+        .with_limits(limits)
+        .build(rt, rt.alloc(), &rt)
 }

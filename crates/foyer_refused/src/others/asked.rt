@@ -4,18 +4,15 @@ use super::waited;
 use crate::cores::{Core, Look};
 use crate::word::Shown;
 use foyer_core::{CacheProperties, CoreEntry};
-use foyer_policy::Eviction;
+use foyer_policy::EvictionConfig;
 use foyer_session::SimValue;
 use std::alloc::Global;
 
 type Entry = CoreEntry<u64, SimValue, CacheProperties>;
 
 /// A call on an entry of the key 5, which changes nothing, and the end of the entry.
-pub fn asked<E: Eviction>(alloc: Global, name: &str) -> Shown
-where
-    E::Config: Default,
-{
-    let Ok(mut core) = waited::<E>(alloc) else {
+pub fn asked(alloc: Global, config: &EvictionConfig, name: &str) -> Shown {
+    let Ok(mut core) = waited(alloc, config) else {
         return Shown::Early;
     };
     let Ok(Some(entry)) = core.get(0, &5) else {
@@ -36,10 +33,7 @@ where
 }
 
 // A clone of an entry, which never wants memory.
-fn cloned<E: Eviction>(core: &mut Core<E>, entry: &Entry) -> Shown
-where
-    E::Config: Default,
-{
+fn cloned(core: &mut Core, entry: &Entry) -> Shown {
     if !core.owns(entry) {
         return Shown::Wrong("the entry isn't owned");
     }
@@ -55,10 +49,7 @@ where
 }
 
 // A piece of an entry's record, and a clone of that.
-fn taken<E: Eviction>(core: &Core<E>, entry: &Entry) -> Shown
-where
-    E::Config: Default,
-{
+fn taken(core: &Core, entry: &Entry) -> Shown {
     let Ok(piece) = entry.piece() else {
         return match entry.piece() {
             Ok(_) if core.owns(entry) => Shown::Kept,
@@ -74,10 +65,7 @@ where
 }
 
 // What is asked of an entry that the core owns.
-fn looked<E: Eviction>(core: &Core<E>, entry: &Entry) -> Shown
-where
-    E::Config: Default,
-{
+fn looked(core: &Core, entry: &Entry) -> Shown {
     if !core.owns(entry) {
         return Shown::Wrong("the entry isn't owned");
     }
@@ -88,10 +76,7 @@ where
 }
 
 // The sums and the hash of a key.
-fn same_sums<E: Eviction>(core: &Core<E>) -> Shown
-where
-    E::Config: Default,
-{
+fn same_sums(core: &Core) -> Shown {
     let sums = core.usage() == 12 && core.entries() == 12 && core.capacity() == 12;
     if sums && core.shards() == 1 && core.hash(&9) == 9 {
         return Shown::Done;
