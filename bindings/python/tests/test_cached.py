@@ -8,9 +8,11 @@ import functools
 import pickle
 import random
 import unittest
+import weakref
 from typing import AsyncIterator
 
 from luffapricot import S3Fifo, cached
+from support import Value
 
 
 @cached
@@ -133,6 +135,16 @@ class Decorator(unittest.TestCase):
         self.assertIsNot(function(1), first)
         self.assertEqual(function.cache_parameters()["policy"], S3Fifo(small=0.5))
 
+    def test_shards(self) -> None:
+        function = cached(100, shards=100)(lambda number: number)
+        for number in range(1000):
+            self.assertEqual(function(number), number)
+        self.assertIn(function.cache_info().currsize, range(90, 101))
+        few = cached(100, shards=100)(lambda number: number)
+        for number in range(100):
+            few(number)
+        self.assertLess(few.cache_info().currsize, 90)  # some shards got two or more, and have room for one
+
     def test_the_same_call_meanwhile(self) -> None:
         @cached(3, policy="lru")
         def function(number: int) -> list:
@@ -160,6 +172,13 @@ class Decorator(unittest.TestCase):
         with self.assertRaises(LookupError):
             function(1)
         self.assertEqual((function(1), function(1), function.cache_info()), (7, 7, (1, 301, 3, 1)))
+
+    def test_results_go_when_they_are_forgotten(self) -> None:
+        function = cached(None)(lambda _: Value())
+        watched = weakref.WeakSet(map(function, range(5000)))
+        self.assertEqual((len(watched), function.cache_info().currsize), (5000, 5000))
+        function.cache_clear()
+        self.assertEqual(len(watched), 0)
 
     def test_recursion(self) -> None:
         @cached(1000)

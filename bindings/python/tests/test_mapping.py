@@ -182,6 +182,22 @@ class Mapping(unittest.TestCase):
             with self.assertRaises(TypeError):
                 cache.get(unhashable)
 
+    def test_equal_keys_of_other_hashes(self) -> None:
+        class Equal:
+            def __init__(self, number: int) -> None:
+                self.number = number
+
+            def __hash__(self) -> int:
+                return self.number
+
+            def __eq__(self, other: object) -> bool:
+                return True
+
+        for shift in (0, 32, 56):  # as in a dict, they are other keys
+            cache, keys = Cache(100), [Equal(number << shift) for number in range(1, 30)]
+            cache.update(zip(keys, range(29)))
+            self.assertEqual([cache.get(Equal(key.number)) for key in keys], [*range(29)])
+
     def test_bad_arguments(self) -> None:
         for words in ((-1,), ("x",), (1, "unknown"), (1, "lru", 0), (1, "lru", 1, 0), (1, "lru", 1, float("nan"))):
             with self.assertRaises((ValueError, TypeError, OverflowError)):
@@ -211,6 +227,12 @@ class Mapping(unittest.TestCase):
             self.assertEqual((list(it.items()), it.stats(), type(it)), ([(3, 1), (2, 2)], (0, 0, 5, 2, 10), Cache))
             it[1] = 1
         self.assertEqual(len(cache), 2)
+        cache = Cache(100, "fifo", shards=70)
+        for it in (pickle.loads(pickle.dumps(cache)), copy.deepcopy(cache)):
+            it.update(zip(range(1000), range(1000)))
+            cache.update(zip(range(1000), range(1000)))
+            self.assertEqual([*it], [*cache])  # each shard has its own part of the capacity
+            cache.clear()
 
     def test_close(self) -> None:
         value = Value()

@@ -35,6 +35,16 @@ class References(unittest.TestCase):
             del cache
             self.assertEqual((sys.getrefcount(value), sys.getrefcount(key)), before)
 
+    def test_a_failed_call_keeps_no_key(self) -> None:
+        for ask in (cached(5)(lambda key: 1 // 0), lambda key: Cache(5).get_or_insert(key, lambda _: 1 // 0)):
+            key = Value()
+            watched = weakref.ref(key)
+            for _ in range(3):
+                with self.assertRaises(ZeroDivisionError):
+                    ask(key)
+            del key
+            self.assertIsNone(watched())
+
     def test_cycles_are_collected(self) -> None:
         cache = Cache(10)
         value = Value()
@@ -239,10 +249,12 @@ class References(unittest.TestCase):
         watched = weakref.ref(value)
         cache["a"] = value
         for key in range(500):
-            cache[Key(key)] = Value()
+            other = Value()
+            other.cache = cache
+            cache[Key(key)] = other
         gc.freeze()  # the dict comes before the cache now
         gc.unfreeze()
-        del value, cache
+        del value, other, cache
         gc.collect()
         self.assertIsNone(watched())
 

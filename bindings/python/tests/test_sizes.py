@@ -44,12 +44,16 @@ class Sizes(unittest.TestCase):
     def test_shares(self) -> None:
         for shards in SHARDS:
             for capacity in (2**32 + 1, 2**48 + 17, 2**64 - 1):
-                cache = Cache(capacity, "lru", shards)
+                grown = Cache(1, "lru", shards)
+                grown.resize(capacity)
                 share = capacity // shards
-                cache.insert("heavy", 1, weight=share)
-                self.assertEqual((cache.get("heavy"), cache.stats()[2:]), (1, (share, 1, capacity)))
-                cache.resize(0)
-                self.assertEqual((len(cache), cache.stats().usage), (0, 0))
+                for cache in (Cache(capacity, "lru", shards), grown):
+                    cache.insert("heavy", 1, weight=share)
+                    self.assertEqual((cache.get("heavy"), cache.stats()[2:]), (1, (share, 1, capacity)))
+                    cache.update(zip(range(20 * shards), range(20 * shards)))  # some come into its shard, which is full
+                    self.assertNotIn("heavy", cache)
+                    cache.resize(0)
+                    self.assertEqual((len(cache), cache.stats().usage), (0, 0))
 
     def test_thousands_that_leave_by_one_call(self) -> None:
         for policy in POLICIES:
@@ -79,7 +83,9 @@ class Sizes(unittest.TestCase):
         for key in range(count):
             cache[key] = -key
         cache.insert("lasting", 1, ttl=20)
+        self.assertEqual((len(cache), cache.stats()), (count + 1, (0, 0, count + 1, count + 1, 2 * count)))
         self.assertEqual(list(cache.items()), [*((key, -key) for key in range(count)), ("lasting", 1)])
+        self.assertEqual([*zip(cache, cache.values())], list(cache.items()))
         time_now[0] = 6
         cache.expire()
         self.assertEqual((list(cache), len(cache)), (["lasting"], 1))

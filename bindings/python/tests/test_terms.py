@@ -19,10 +19,10 @@ class Terms(unittest.TestCase):
         cache.insert("a", 1, weight=2**64 - 1, ttl=float("inf"))
         self.assertEqual((cache["a"], cache.stats()), (1, (1, 0, 2**64 - 1, 1, 2**64 - 1)))
         cache = Cache(2**64 - 1, "lru", weigher=lambda _, value: value)
-        cache["a"], cache["b"] = 2**40, 2**63
-        cache.get_or_insert("c", lambda _: 2**35)
-        cache.setdefault("d", 2**36)
-        self.assertEqual(cache.stats().usage, 2**40 + 2**63 + 2**35 + 2**36)
+        cache["a"], cache["b"] = 2**40 + 1, 2**63 + 1  # the last has more bits than a float
+        cache.get_or_insert("c", lambda _: 2**35 + 1)
+        cache.setdefault("d", 2**54 + 1)
+        self.assertEqual(cache.stats().usage, 2**40 + 2**63 + 2**35 + 2**54 + 4)
         cache = Cache(2**64 - 1, "lru", shards=2)
         for key in range(20):  # each shard has one, whose sum is too much
             cache.insert(key, key, weight=2**64 - 1)
@@ -66,6 +66,15 @@ class Terms(unittest.TestCase):
             Cache(1, weigher=3)
         del cache
         self.assertEqual(sys.getrefcount(weigher), before)
+
+    def test_values_that_weigh_nothing(self) -> None:
+        for policy in POLICIES:
+            cache = Cache(3, policy, weigher=lambda _, value: value)
+            cache.update(a=1, b=2)
+            cache.update(zip(range(1000), [0] * 1000))
+            self.assertEqual((cache.get_or_insert("c", lambda _: 0), cache.setdefault("d", 0)), (0, 0))
+            cache.insert("e", 5, weight=0)
+            self.assertEqual((cache["a"], cache["b"], len(cache), cache.stats().usage), (1, 2, 1005, 3))
 
     def test_is_lru(self) -> None:
         cache = Cache(100, "lru")
@@ -161,7 +170,7 @@ class Terms(unittest.TestCase):
             time_now = [1000.0]
             cache = Cache(10, timer=lambda: time_now[0])
             cache.insert("a", 1, ttl=life)
-            for time_now[0], is_there in ((1000 + life * 0.999999, True), (1000 + life * 1.000001, False)):
+            for time_now[0], is_there in ((1000 + life * (1 - 1e-12), True), (1000 + life * (1 + 1e-12), False)):
                 self.assertEqual("a" in cache, is_there or time_now[0] > 1.84e10, life)
         cache.insert("b", 1, ttl=float("inf"))
         time_now[0] = 1e12
@@ -214,6 +223,7 @@ class Terms(unittest.TestCase):
     def test_policies_with_parameters(self) -> None:
         policies = [Fifo(), Lru(), Lfu(window=0.3, protected=0.5, sketch_rows=2, sketch_buckets=100), Sieve()]
         policies += [S3Fifo(), S3Fifo(small=0.5, ghost=2, small_to_main=3), Lfu()]
+        policies += [S3Fifo(small=0.001), Lfu(window=0.001)]
         for policy in policies:
             cache = Cache(50, policy)
             cache.update(zip(range(200), range(200)))

@@ -153,6 +153,19 @@ fn one_call_tells_of_thousands_that_left() {
 }
 
 #[test]
+fn more_records_than_16_bits_count() {
+    let count = 70_000;
+    let it = Watched::new(2 * count as usize, 1, FifoConfig {});
+    (0..count).for_each(|key| it.cache.put(key, key));
+    assert_eq!((it.cache.entries(), it.cache.usage()), (count as usize, count as usize));
+    assert_eq!(it.cache.keys(), (0..count).collect::<Vec<_>>());
+    (0..count).for_each(|key| assert!(it.cache.touch(&key)));
+    assert_eq!((it.cache.stats().inserts, it.cache.stats().hits), (count, count));
+    it.cache.clear();
+    assert_eq!(it.left(), all(Event::Clear, 0..count));
+}
+
+#[test]
 fn thousands_of_entries_are_held_while_calls_run() {
     let it = Watched::new(MANY as usize, 17, LruConfig::default());
     (0..MANY).for_each(|key| it.cache.put(key, 7 * key));
@@ -178,6 +191,17 @@ fn thousands_of_entries_are_held_while_calls_run() {
     assert_eq!(one.refs(), handles.len() + 1);
     drop(handles);
     assert_eq!(one.refs(), 1);
+}
+
+#[test]
+fn thousands_wait_for_one_fetch_and_each_is_counted() {
+    let it = Watched::new(100, 17, LruConfig::default());
+    let waits: Vec<_> = (0..MANY).map(|_| it.cache.get_or_fetch(&1, || async { Ok::<_, Error>(7) })).collect();
+    let entries: Vec<_> = waits.into_iter().map(|wait| block_on(wait).unwrap()).collect();
+    assert!(entries.iter().all(|entry| **entry == 7 && entry.refs() == entries.len()));
+    let stats = it.cache.stats();
+    let wanted = Stats { misses: MANY, inserts: 1, fetches: 1, waits: MANY - 1, ..Stats::default() };
+    assert_eq!(stats, wanted);
 }
 
 #[test]
@@ -246,6 +270,42 @@ fn a_record_of_low_priority_has_a_life_too() {
         assert!(it.cache.contains(&3));
         it.at(life);
         assert!(!it.cache.contains(&3) && it.cache.contains(&1));
+    }
+    // It keeps its priority with another life.
+    let it = Watched::new(4, 1, LruConfig::default());
+    it.cache.put_with_properties(1, 1, CacheProperties::default().with_hint(Hint::Low));
+    (2..4).for_each(|key| it.cache.put(key, key));
+    assert!(it.cache.set_time_to_live(&1, Some(Duration::MAX)));
+    (4..6).for_each(|key| it.cache.put(key, key));
+    assert_eq!(it.left(), [(Event::Replace, 1), (Event::Evict, 1)]);
+}
+
+#[test]
+fn each_insert_gives_a_record_its_priority_and_its_life_which_ends_for_all_owners() {
+    type Call = fn(&Numbers, CacheProperties);
+    let inserts: [Call; 6] = [
+        |it, low| drop(it.insert_with_properties(3, 3, low)),
+        |it, low| it.put_with_properties(3, 3, low),
+        |it, low| drop(it.try_insert_if_fits(3, 3, low)),
+        |it, low| drop(it.try_replace_if(None, 3, 3, low)),
+        |it, low| drop(it.get_or_try_insert_with_properties(&3, || Ok((3, low)))),
+        |it, low| {
+            let fetch = || async { Ok::<_, Error>(FetchTarget::Entry { value: 3, properties: low }) };
+            drop(block_on(it.get_or_fetch(&3, fetch)));
+        },
+    ];
+    let life = 1 << 40;
+    for (at, insert) in inserts.iter().enumerate() {
+        let it = Watched::new(3, 1, LruConfig::default());
+        let owner = it.cache.clone();
+        (1..3).for_each(|key| it.cache.put(key, key));
+        insert(&it.cache, nanoseconds(life).with_hint(Hint::Low));
+        for (time, is_there) in [(life - 1, true), (life, false), (0, true)] {
+            it.at(time);
+            assert_eq!([1, 3].map(|key| owner.contains(&key)), [true, is_there], "{at} at {time}");
+        }
+        it.cache.put(4, 4);
+        assert_eq!(it.left(), all(Event::Evict, [3]), "{at}");
     }
 }
 
