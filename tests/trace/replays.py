@@ -119,14 +119,17 @@ def lives_of_numbered_requests(program):
 def numbers_past_32_bits(program):
     """Times, sizes and lives whose differences have more than 32 bits, in memory and in a stream."""
     rng = random.Random(5)
-    times = sorted(rng.randrange(2**41, 2**42) for _ in range(3000))
-    requests = [(time, key, 1 + key * 2**31) for time, key in zip(times, some_keys(3000, 60))]
-    name = program.put("l.csv", "time,key,size\n" + "".join(f"{t},{k},{s}\n" for t, k, s in requests))
-    for ttl in (None, 2**36):
-        words = ["--policy", "fifo", "--weigh", "size", "--size", str(2**37), *(["--ttl", ttl] if ttl else [])]
-        wanted = weighed_model(requests, 2**37, ttl)["hits"]
-        assert wanted > 100
-        assert program.hits(name, *words) == program.hits(name, "--stream", *words) == {("fifo", 2**37): wanted}, ttl
+    for least in (2**41, 2**48 - 2**40, 2**63 - 2**40):
+        times = sorted(rng.randrange(least, least + 2**41) for _ in range(3000))
+        requests = [(time, key, 1 + key * 2**31) for time, key in zip(times, some_keys(3000, 60))]
+        name = program.put("l.csv", "time,key,size\n" + "".join(f"{t},{k},{s}\n" for t, k, s in requests))
+        lives = program.put("m.csv", "".join(f"{t},{k},{s},get,{2**34}\n" for t, k, s in requests))
+        plain = weighed_model(requests, 2**39)["hits"]
+        for ttl, *more in ((None, name), (2**34, name, "--ttl", 2**34), (2**34, lives)):
+            words = ["--policy", "fifo", "--weigh", "size", "--size", str(2**39), *more]
+            wanted = weighed_model(requests, 2**39, ttl)["hits"]
+            assert ttl is None or 100 < wanted < plain - 100, (wanted, plain)
+            assert program.hits(*words) == program.hits(*words, "--stream") == {("fifo", 2**39): wanted}, (least, words)
 
 
 @case
@@ -166,7 +169,7 @@ def warmup(program):
     assert (row["requests"], int(row["hits"])) == ("2000", belady_by_heap(keys, 20, 2000)), row
     for word in ("0.5", "50%", "2000"):
         row = program.rows(*words, "--warmup", word)[0]
-        assert int(row["requests"]) == 2000
+        assert int(row["requests"]) == 2000 and row["miss_ratio"] == f"{int(row['misses']) / 2000:.6f}", row
         assert int(row["hits"]) == int(whole["hits"]) - model(keys[:2000], 20, False), row
     for more in ([], ["--stream"]):
         said = "the warmup leaves none of the 4,000 requests to be counted"
@@ -225,10 +228,14 @@ def samples_are_smaller_caches(program):
         sampled = [it for it in requests if part - 1 <= 4 * place(it[1]) < part]
         wanted, row = weighed_model(sampled, 2000), program.rows(*words, "--part", f"{part}/4")[0]
         assert sampled and all(int(row[it]) == wanted[it] for it in COUNTED), (part, row, wanted)
-    sampled = [it for it in requests if place(it[1]) < 0.1]
-    wanted, row = weighed_model(sampled, 800), program.rows(*words, "--sample", "0.1")[0]
-    assert all(int(row[it]) == wanted[it] for it in ("misses", "miss_bytes", "evictions")), (row, wanted)
-    assert int(row["requests"]) == 2000 and abs(int(row["bytes"]) - sum(size for *_, size in requests) / 10) <= 1, row
+    for factor in (1, 2**26):  # 60 TB in all
+        grown = [(at, key, size * factor) for at, key, size in requests]
+        name = program.put("s.csv", "key,size\n" + "".join(f"{key},{size}\n" for _, key, size in grown))
+        sampled = [it for it in grown if place(it[1]) < 0.1]
+        row = program.rows(*words[:-1], 8000 * factor, "--sample", "0.1")[0]
+        wanted = weighed_model(sampled, 800 * factor)
+        assert all(int(row[it]) == wanted[it] for it in ("misses", "miss_bytes", "evictions")), (row, wanted)
+        assert int(row["requests"]) == 2000 and abs(int(row["bytes"]) - sum(size for *_, size in grown) / 10) <= 1, row
 
 
 @case

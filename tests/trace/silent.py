@@ -61,6 +61,9 @@ def msr_requests_are_blocks(program):
     assert f"{len(accesses)} requests ({gets} gets), {len(seen)} distinct keys" in text, text
     # A unit of time is 100 ns.
     assert int(program.rows(name, "--format", "msr", "--policy", "lru", "--size", "1000", "--ttl", "1")[0]["hits"]) < hits
+    far = "".join(f"1,h,0,Read,{offset},4096,1\n" for offset in (0, 2**32, 2**40, 2**62)).encode()
+    row = program.rows("-", "--format", "msr", "--policy", "lru", "--size", "9", data=far * 2)[0]
+    assert (row["hits"], row["misses"]) == ("4", "4"), row
     past = 2**64 - 1
     for bad in ("1,h,0,Fetch,0,1,1", "1,h,0,Read,x,1,1", "1,h,0,Read,0", "1.5.2,h,0,Read,0,1,1", f"1,h,0,Read,{past},9,1"):
         program.fails(1, "record 2: expected", "-", "--format", "msr", data=f"1,h,0,Read,0,1,1\n{bad}\n".encode())

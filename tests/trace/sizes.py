@@ -3,19 +3,39 @@ import collections
 import csv
 import io
 import random
+import struct
 
-from common import COUNTED, case, lines, mix, model, place, some_keys, weighed_model
+from common import COUNTED, belady_by_heap, case, lines, mix, model, place, some_keys, weighed_model
 
 
 @case
 def belady_of_many_records(program):
-    """Of keys in a circle Belady's cache keeps as many as it holds, here through 2^20 requests and more."""
+    """Of keys in a circle Belady's cache keeps as many as it holds, and LRU all or none, of 2^20 requests and more."""
     keys, size, rounds = 1100, 300, 1000
     data = (lines(range(keys)) * rounds).encode()
-    hits = program.hits("-", "--policy", "belady,lru", "--size", size, data=data)
-    assert keys * rounds > 2**20 and hits == {("belady", size): size * (rounds - 1), ("lru", size): 0}, hits
+    hits = program.hits("-", "--policy", "belady,lru,lru-curve", "--size", f"{size},{keys}", data=data)
+    wanted = {(policy, keys): keys * (rounds - 1) for policy in ("belady", "lru", "lru-curve")}
+    wanted |= {("belady", size): size * (rounds - 1), ("lru", size): 0, ("lru-curve", size): 0}
+    assert keys * rounds > 2**20 and hits == wanted, hits
     row = program.rows("-", "--policy", "belady", "--size", size, "--warmup", keys * (rounds - 2), data=data)[0]
     assert (row["requests"], row["hits"]) == (str(2 * keys), str(2 * size)), row
+
+
+@case
+def caches_of_many_records(program):
+    """Caches of more than 2^16 records hold so many, of each policy, and LRU's curve is as deep."""
+    keys = list(range(90_000))
+    everything = lines(keys * 2).encode()
+    words = ["--policy", "all,belady,lru-curve,arc,lirs,2q,lru-k,s3fifo-paper", "--size", "100000"]
+    hits = program.hits("-", *words, data=everything)
+    assert len(hits) == 12 and set(hits.values()) == {len(keys)}, hits
+    again = random.Random(2).sample(keys, len(keys))
+    words = ["--policy", "belady,lru:high=1.0,lru-curve", "--size", "66000,80000"]
+    hits = program.hits("-", *words, data=lines(keys + again).encode())
+    for size in (66_000, 80_000):
+        least, textbook = belady_by_heap(keys + again, size), model(keys + again, size, True)
+        found = [hits[policy, size] for policy in ("belady", "lru", "lru-curve")]
+        assert found == [least, textbook, textbook], (size, found, least, textbook)
 
 
 @case
@@ -94,6 +114,8 @@ def merges_of_many_files(program):
     assert {it: int(row[it]) for it in COUNTED} == {it: wanted[it] for it in COUNTED}, (row, wanted)
     assert int(row["requests"]) == len(requests)
     assert program.call("--merge", *names)[1].endswith("\n30,000 gets in 20 files\n")
+    program.fails(1, "part 20/20 of fifo at 20000 is missing", "--merge", *names[:-1])
+    program.fails(1, "part 20/20 of fifo at 20000 is there twice", "--merge", *names, names[-1])
 
 
 @case
@@ -107,6 +129,8 @@ def many_runs_at_once(program):
     for more in ([], ["--stream"]):
         rows = program.rows(*words, *more)
         assert [(it["policy"], int(it["size"]), int(it["hits"])) for it in rows] == wanted, more
+    sheet = program.put("all.csv", (program.folder / "rows.csv").read_text())
+    assert program.rows("--merge", sheet) == rows
 
 
 @case
@@ -123,3 +147,25 @@ def many_shards(program):
             shares = {shard: max(size // shards + (shard < size % shards), 1) for shard in parts}
             wanted = sum(model(part, shares[shard], policy == "lru") for shard, part in parts.items())
             assert hits[policy, size] == wanted, (policy, shards, size, hits, wanted)
+
+
+@case
+def records_across_reads(program):
+    """Records that begin in one read and end in the next, of a file and of a pipe, of 24 bytes, a line and a row."""
+    keys = [key * 2**40 for key in some_keys(40_000, 900)]
+    binary = b"".join(struct.pack("<IQIq", at, key, 1, -1) for at, key in enumerate(keys))
+    for form, data in (("oracle", binary), ("keys", lines(keys).encode()), ("csv", lines(keys).encode())):
+        assert len(data) > 2 * 2**18
+        words = ["--format", form, "--policy", "lru:high=1.0", "--size", "50"]
+        found = [program.hits(program.put("r.bin", data), *words), program.hits("-", *words, data=data)]
+        assert found == [{("lru", 50): model(keys, 50, True)}] * 2, (form, found)
+
+
+@case
+def many_windows(program):
+    """A hundred windows, each of its own requests."""
+    keys = some_keys(5000, 400)
+    words = [program.put("w.keys", lines(keys)), "--policy", "fifo,belady", "--size", "30", "--windows", "100"]
+    row = program.rows(*words)[0]
+    hits = [model(keys[:end], 30, False) for end in range(0, 5001, 50)]
+    assert row["windows"] == " ".join(f"{1 - (b - a) / 50:.6f}" for a, b in zip(hits, hits[1:])), row

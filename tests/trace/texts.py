@@ -293,6 +293,22 @@ def table_marks_the_least(program):
 
 
 @case
+def ties_are_marked(program):
+    """All ratios that print as the least of a column have its star, also where their digits behind those differ."""
+    program.call("-", "--policy", "lru", "--size", "9", "--csv", "h.csv", data=b"1\n")
+    names = (program.folder / "h.csv").read_text().split("\n")[0].split(",")
+    rows = [",".join(names)]
+    for policy, misses in {"fifo": 123_430, "lru": 123_410, "lfu": 123_460, "sieve": 123_410, "belady": 9}.items():
+        row = {"policy": policy, "size": "9", "requests": "1000000", "hits": str(10**6 - misses), "misses": str(misses)}
+        row |= {"miss_ratio": "0.1", "evictions": "0", "expired": "0", "seconds": "1.0", "unit": "records"}
+        row |= {"part": "1/1", "read": "9", "checksum": "7"}
+        rows.append(",".join(row.get(name, "") for name in names))
+    said = program.call("--merge", program.put("t.csv", "\n".join(rows) + "\n"))[1]
+    table = [it.split() for it in said.split("\n\n")[1].splitlines()[2:]]
+    assert [it[1] for it in table] == ["0.1234*", "0.1234*", "0.1235", "0.1234*", "0.0000"], said
+
+
+@case
 def columns_line_up(program):
     """A size of any length stands above its ratios."""
     words = ["--policy", "fifo,lru:high=0.5", "--size", "1,10000000000,18446744073709551615", "--quiet"]
@@ -314,6 +330,9 @@ def make(program):
     assert program.call("--make", word.replace("seed=7", "seed=8"))[1] != first
     flat = collections.Counter(program.call("--make", "zipf:ops=20k,keys=10,skew=0")[1].split())
     assert len(flat) == 10 and min(flat.values()) > 1800
+    many = list(map(int, program.call("--make", "zipf:ops=20k,keys=300k,skew=0")[1].split()))
+    for below in (2**16, 200_000, 300_000):
+        assert abs(sum(it < below for it in many) / 20_000 - below / 300_000) < 0.02, below
 
 
 @case

@@ -1,12 +1,13 @@
 """Windows of a trace, what is recommended, and compressed traces."""
 import gzip
 import os
+import random
 import re
 import shutil
 import subprocess
 import xml.etree.ElementTree as xml
 
-from common import ROOT, TRACES, case, lines, model, some_keys
+from common import COUNTED, ROOT, TRACES, case, lines, model, some_keys
 
 
 @case
@@ -27,6 +28,24 @@ def windows_are_parts_of_a_run(program):
             assert int(row["hits"]) == whole[policy, 90], (count, policy)
             mean = sum(float(it) * (b - a) for it, a, b in zip(row["windows"].split(), ends, ends[1:])) / len(keys)
             assert abs(mean - float(row["miss_ratio"])) < 0.00001, (count, row)
+
+
+@case
+def windows_of_all_kinds_of_requests(program):
+    """What windows cut off from the program's own parts keeps its operation, its size and its life."""
+    rng = random.Random(6)
+    requests = [(at, key, 1 + key % 40) for at, key in enumerate(some_keys(4000, 300))]
+    gets = "".join(f"{at},{key},{size},get,{20 + key % 60}\n" for at, key, size in requests)
+    what = rng.choices(("get", "set", "delete"), (2, 1, 1), k=len(requests))
+    mixed = "".join(f"{at},{key},{size},{op},0\n" for (at, key, size), op in zip(requests, what))
+    for text in (gets, mixed):
+        words = [program.put("k.csv", text), "--policy", "fifo,lru", "--weigh", "size", "--size", "700"]
+        whole = [{it: row[it] for it in COUNTED} for row in program.rows(*words)]
+        for count in (2, 7):
+            cut = [{it: row[it] for it in COUNTED} for row in program.rows(*words, "--windows", count)]
+            assert cut == whole, (count, cut, whole)
+        assert (int(whole[0]["expired"]) > 100) == (text is gets), whole
+        assert (int(whole[0]["requests"]) < 3000) == (text is mixed), whole
 
 
 @case
@@ -99,7 +118,7 @@ def the_curve_recommends_between_sizes(program):
 
 @case
 def compressed_traces(program):
-    """The launcher reads what zstd and gzip wrote, under the name and the format of what they compressed."""
+    """The launcher reads all that zstd and gzip wrote, under the name and the format of what they compressed."""
     folder = program.folder / "bin"
     folder.mkdir()
     launcher = folder / "foyer-trace"
@@ -115,7 +134,8 @@ def compressed_traces(program):
     plain, table = program.put("a.keys", keys), program.put("a b.csv", "key\n" + keys)
     words = ["--policy", "lru", "--size", "40", "--quiet"]
     for name in (plain, table):
-        (program.folder / f"{name}.gz").write_bytes(gzip.compress((program.folder / name).read_bytes()))
+        data = (program.folder / name).read_bytes()
+        (program.folder / f"{name}.gz").write_bytes(gzip.compress(data[:5000]) + gzip.compress(data[5000:]))
         assert call(f"{name}.gz", *words) == call(name, *words) == program.call(name, *words), name
         assert call(*words, "--title", "it", f"./{name}.gz")[1].startswith("it: 4,000 requests")
         if shutil.which("zstd"):
