@@ -22,7 +22,7 @@ SHIPPED = ["foyer_policy", "foyer_core", "foyer_raw", "foyer_memory"]
 PROVED = f"{ROOT}/rust/luffapricot/src/proved"
 NOTE = "// Written by rust/erase/erase.py from crates/{}: change that.\n"
 ALLOWED = "#[allow(unused_imports)]\n"
-RUSTFMT = ["rustfmt", "--edition", "2024", "--config", "reorder_imports=false,reorder_modules=false,max_width=110"]
+RUSTFMT = ["rustfmt", "--edition", "2024", "--config-path", f"{ROOT}/rust/rustfmt.toml"]
 
 
 def sources_of(crate):

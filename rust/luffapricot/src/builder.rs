@@ -70,7 +70,10 @@ impl<K: Key, V: Value, S: BuildHasher + Send + Sync + 'static> CacheBuilder<K, V
 
     /// Sets the hash builder. The default one is fast and has a fixed seed: whoever picks the keys can make them collide.
     /// Use [`std::hash::RandomState`] if that is an enemy.
-    pub fn with_hash_builder<OS: BuildHasher + Send + Sync + 'static>(self, hash_builder: OS) -> CacheBuilder<K, V, OS> {
+    pub fn with_hash_builder<OS: BuildHasher + Send + Sync + 'static>(
+        self,
+        hash_builder: OS,
+    ) -> CacheBuilder<K, V, OS> {
         CacheBuilder {
             capacity: self.capacity,
             shards: self.shards,

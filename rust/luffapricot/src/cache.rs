@@ -225,6 +225,9 @@ impl<K: Key, V: Value, S, P: Properties> Clone for Cache<K, V, S, P> {
 
 impl<K: Key, V: Value, S, P: Properties> fmt::Debug for Cache<K, V, S, P> {
     fn fmt(&self, f: &mut fmt::Formatter<'_>) -> fmt::Result {
-        f.debug_struct("Cache").field("capacity", &self.capacity()).field("shards", &self.shards()).finish_non_exhaustive()
+        f.debug_struct("Cache")
+            .field("capacity", &self.capacity())
+            .field("shards", &self.shards())
+            .finish_non_exhaustive()
     }
 }

@@ -139,11 +139,13 @@ impl<K: Eq> PartialEq for Name<K> {
     fn eq(&self, other: &Self) -> bool {
         let asked = ASKED.get();
         let is_asked = |name: &Self| ptr::eq(asked, ptr::from_ref(name).cast());
-        compared([ptr::from_ref(self).cast(), ptr::from_ref(other).cast()], || match (is_asked(self), is_asked(other)) {
-            (false, false) => self.get() == other.get(),
-            (true, false) => other.is_asked(asked),
-            (false, true) => self.is_asked(asked),
-            (true, true) => true,
+        compared([ptr::from_ref(self).cast(), ptr::from_ref(other).cast()], || {
+            match (is_asked(self), is_asked(other)) {
+                (false, false) => self.get() == other.get(),
+                (true, false) => other.is_asked(asked),
+                (false, true) => self.is_asked(asked),
+                (true, true) => true,
+            }
         })
     }
 }

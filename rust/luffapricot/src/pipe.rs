@@ -144,4 +144,3 @@ impl<K: 'static, V: 'static, P: Properties> foyer_raw::Pipe for PipeOf<K, V, P> 
         flush.unwrap_or_else(|| Box::pin(std::future::ready(())))
     }
 }
-

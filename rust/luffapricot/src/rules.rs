@@ -67,7 +67,8 @@ pub(crate) struct Admit<K, V>(pub(crate) Option<Box<dyn Filter<K, V>>>);
 impl<K, V> foyer_core::Filter<Name<K>, Held<V>> for Admit<K, V> {
     #[inline(always)]
     fn admit(&self, key: &Name<K>, value: &Held<V>) -> bool {
-        !crate::guard::is_pending() && self.0.as_ref().is_none_or(|admit| caught(|| admit(key.get(), value.get())).unwrap_or(false))
+        !crate::guard::is_pending()
+            && self.0.as_ref().is_none_or(|admit| caught(|| admit(key.get(), value.get())).unwrap_or(false))
     }
 }
 

@@ -136,7 +136,12 @@ fn run(policy: EvictionConfig) -> u64 {
                 5 => {
                     let seen = kept.iter().rfind(|entry: &&CacheEntry<u64, Page>| *entry.key() == key);
                     let replaced = refusing(n, || cache.try_replace_if(seen, key, page, CacheProperties::default()));
-                    (replaced.0.map(|replaced| matches!(replaced, Replaced::Inserted(_)).then(|| cache.get(&key)).flatten()), replaced.1)
+                    (
+                        replaced.0.map(|replaced| {
+                            matches!(replaced, Replaced::Inserted(_)).then(|| cache.get(&key)).flatten()
+                        }),
+                        replaced.1,
+                    )
                 }
                 6 => refusing(n, || cache.try_insert_if_fits(key, page, CacheProperties::default())),
                 0..3 => refusing(n, || cache.try_insert(key, page, CacheProperties::default()).map(Some)),
@@ -186,7 +191,8 @@ fn a_call_fails_with_f7_and_the_cache_stays_whole_if_memory_is_refused() {
 fn an_insert_of_a_string_key_allocates_its_record_alone() {
     let key = |n: u64| format!("key {}", if n % 3 == 0 { n - 1 } else { n });
     for policy in policies() {
-        let cache: Cache<String, u64> = CacheBuilder::new(100).with_shards(2).with_eviction_config(policy.clone()).build();
+        let cache: Cache<String, u64> =
+            CacheBuilder::new(100).with_shards(2).with_eviction_config(policy.clone()).build();
         for n in 1..22_000 {
             let own = key(n);
             let ((), made) = match n % 2 {

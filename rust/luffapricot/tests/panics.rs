@@ -198,7 +198,11 @@ fn run(site: Site, n: i64, seed: u64, policy: EvictionConfig) -> bool {
     arrived += usize::from(thrown(|| drop(cache)).is_err());
     assert_eq!(arrived, world.thrown.load(SeqCst));
     world.arm(Site::None, 0);
-    assert!(world.live.load(SeqCst) == 0 || rustc_leaks(site), "{} leak or were dropped twice", world.live.load(SeqCst));
+    assert!(
+        world.live.load(SeqCst) == 0 || rustc_leaks(site),
+        "{} leak or were dropped twice",
+        world.live.load(SeqCst)
+    );
     for (serial, events) in world.told.lock().unwrap().iter() {
         let is_phantom = events[..] == [Event::Remove, Event::Evict];
         let most = 1 + again.get(serial).unwrap_or(&0);
@@ -233,7 +237,11 @@ fn a_panic_anywhere_arrives_once_and_leaves_the_cache_whole() {
 }
 
 // Seven callers wait while an eighth makes. Returns what each of them got: an entry's serial, an error's text or a panic.
-fn seven_wait(world: &Arc<World>, cache: &Store, make: impl FnOnce() -> Page + Send) -> Vec<Result<Result<u64, String>, String>> {
+fn seven_wait(
+    world: &Arc<World>,
+    cache: &Store,
+    make: impl FnOnce() -> Page + Send,
+) -> Vec<Result<Result<u64, String>, String>> {
     let (begun, waiting) = (Barrier::new(2), AtomicUsize::new(0));
     std::thread::scope(|scope| {
         let maker = scope.spawn(|| {
@@ -247,14 +255,24 @@ fn seven_wait(world: &Arc<World>, cache: &Store, make: impl FnOnce() -> Page + S
                 std::thread::sleep(Duration::from_millis(20));
                 Ok::<_, BoxError>(make())
             };
-            thrown(|| cache.get_or_try_insert_with(&world.key(1), made).map(|entry| entry.serial).map_err(|error| error.to_string()))
+            thrown(|| {
+                cache
+                    .get_or_try_insert_with(&world.key(1), made)
+                    .map(|entry| entry.serial)
+                    .map_err(|error| error.to_string())
+            })
         });
         begun.wait();
         let one = || {
             world.enter();
             waiting.fetch_add(1, SeqCst);
             let made = || Ok::<_, BoxError>(world.value());
-            thrown(|| cache.get_or_try_insert_with(&world.key(1), made).map(|entry| entry.serial).map_err(|error| error.to_string()))
+            thrown(|| {
+                cache
+                    .get_or_try_insert_with(&world.key(1), made)
+                    .map(|entry| entry.serial)
+                    .map_err(|error| error.to_string())
+            })
         };
         let all: Vec<_> = (0..7).map(|_| scope.spawn(one)).collect();
         let mut got = vec![maker.join().unwrap()];
@@ -272,7 +290,10 @@ fn who_waits_for_a_maker_that_panics_gets_its_message() {
         assert_eq!(got[0], Err("boom: no page".to_owned()));
         assert!(got[1..].contains(&Ok(Err("the fetch failed: it panicked: boom: no page".to_owned()))), "{got:?}");
         for result in &got[1..] {
-            assert!(matches!(result, Ok(Ok(_))) || *result == Ok(Err("the fetch failed: it panicked: boom: no page".to_owned())));
+            assert!(
+                matches!(result, Ok(Ok(_)))
+                    || *result == Ok(Err("the fetch failed: it panicked: boom: no page".to_owned()))
+            );
         }
         drop(cache.get_or_insert_with(&world.key(1), || world.value()));
         drop(cache);
@@ -294,7 +315,8 @@ impl std::error::Error for Mute {}
 
 #[test]
 fn nobody_waits_for_ever_if_what_comes_after_the_maker_panics() {
-    for site in [Site::Default, Site::Phantom, Site::Hint, Site::Weigh, Site::Admit, Site::Eq, Site::Hash, Site::Clone] {
+    for site in [Site::Default, Site::Phantom, Site::Hint, Site::Weigh, Site::Admit, Site::Eq, Site::Hash, Site::Clone]
+    {
         for n in 1..8 {
             let world = World::new();
             let cache = store(&world, LruConfig::default().into(), 30, 1);
@@ -314,7 +336,10 @@ fn nobody_waits_for_ever_if_what_comes_after_the_maker_panics() {
     let cache = store(&world, LruConfig::default().into(), 30, 1);
     for _ in 0..2 {
         let captured = Captured::new(&world);
-        assert_eq!(thrown(|| cache.get_or_try_insert_with(&world.key(1), || Err(Mute(captured)))).unwrap_err(), "boom true");
+        assert_eq!(
+            thrown(|| cache.get_or_try_insert_with(&world.key(1), || Err(Mute(captured)))).unwrap_err(),
+            "boom true"
+        );
     }
     drop(cache);
     assert_eq!(world.live.load(SeqCst), 0);
@@ -373,9 +398,14 @@ fn a_closure_that_panics_leaves_no_fetch_open() {
         assert!(block_on(cache.get_or_fetch(&key, move || Fetch::new(captured.world()))).is_ok());
         cache.clear();
     }
-    let cache: Store = builder(&world, SieveConfig {}.into(), 30, 1).with_spawner(|task| panic!("boom {}", size_of_val(&task))).build();
+    let cache: Store = builder(&world, SieveConfig {}.into(), 30, 1)
+        .with_spawner(|task| panic!("boom {}", size_of_val(&task)))
+        .build();
     let captured = Captured::new(&world);
-    assert_eq!(thrown(|| cache.get_or_fetch(&key, move || Fetch::new(captured.world()))).map(drop).unwrap_err(), "boom 16");
+    assert_eq!(
+        thrown(|| cache.get_or_fetch(&key, move || Fetch::new(captured.world()))).map(drop).unwrap_err(),
+        "boom 16"
+    );
     drop(cache.get_or_insert_with(&key, || world.value()));
 }
 
@@ -410,7 +440,8 @@ fn values_may_use_the_cache_when_they_are_dropped() {
         }
     }
     for policy in policies() {
-        let cache: Cache<u64, Option<Back>> = Cache::<u64, Option<Back>>::builder(10).with_shards(1).with_eviction_config(policy).build();
+        let cache: Cache<u64, Option<Back>> =
+            Cache::<u64, Option<Back>>::builder(10).with_shards(1).with_eviction_config(policy).build();
         let own = cache.clone();
         let calls: Calls = Arc::new(move |key| {
             own.get(&key);
@@ -476,7 +507,8 @@ fn a_waker_that_panics_breaks_no_wait() {
             let cache = store(&world, FifoConfig {}.into(), 30, 1);
             let captured = Captured::new(&world);
             let lead = cache.get_or_fetch(&world.key(1), move || Fetch::new(captured.world()));
-            let mut waits: Vec<_> = (0..4).map(|_| cache.get_or_fetch(&world.key(1), || async { Err::<Loaded, _>("none") })).collect();
+            let mut waits: Vec<_> =
+                (0..4).map(|_| cache.get_or_fetch(&world.key(1), || async { Err::<Loaded, _>("none") })).collect();
             world.arm(site, n);
             let mut arrived = 0;
             let waker = Shy::waker(&world);
@@ -600,7 +632,8 @@ fn a_panic_of_a_drop_behind_a_closures_panic_does_not_come_later() {
             assert!(cache.delete(key));
             panic!("boom: the closure")
         };
-        let call = || if is_retain { cache.retain(delete) } else { cache.for_each(|key, value| assert!(delete(key, value))) };
+        let call =
+            || if is_retain { cache.retain(delete) } else { cache.for_each(|key, value| assert!(delete(key, value))) };
         assert_eq!(thrown(call).unwrap_err(), "boom: the closure");
         assert_eq!(world.thrown.load(SeqCst), 1);
         drop(cache.insert(world.key(2), world.value()));

@@ -98,7 +98,10 @@ fn calls_over_all_shards_come_to_each_though_some_are_empty() {
         let it = made();
         it.cache.resize(shards as usize).unwrap();
         let (kept, gone): (Vec<u64>, Vec<u64>) = ordered.iter().partition(|key| **key / shards == 1);
-        assert_eq!((it.left(), it.cache.keys(), it.cache.capacity()), (all(Event::Evict, gone), kept.clone(), shards as usize));
+        assert_eq!(
+            (it.left(), it.cache.keys(), it.cache.capacity()),
+            (all(Event::Evict, gone), kept.clone(), shards as usize)
+        );
         block_on(it.cache.flush_if(|key, _| (key + 1) % shards == 0));
         let last = 2 * shards - 1;
         assert_eq!(it.left(), all(Event::Evict, [last]));
@@ -244,7 +247,11 @@ fn the_longest_life_is_for_ever() {
         block_on(it.cache.get_or_fetch(&5, || async { Ok::<_, Error>(5) })).unwrap();
         for time in [1 << 63, u64::MAX - 1, u64::MAX] {
             it.at(time);
-            assert_eq!([1, 2, 3, 4, 5].map(|key| it.cache.contains(&key)), [true, true, false, true, true], "{life:?} at {time}");
+            assert_eq!(
+                [1, 2, 3, 4, 5].map(|key| it.cache.contains(&key)),
+                [true, true, false, true, true],
+                "{life:?} at {time}"
+            );
         }
     }
 }
@@ -431,7 +438,10 @@ fn weights_past_2_to_the_63_are_exact_and_their_sum_is_at_most_the_greatest() {
     }
     assert_eq!((it.cache.usage(), it.left()), ((1 << 62) + (1 << 32) - 7, vec![]));
     let heaviest = it.cache.insert(1, u64::MAX);
-    assert_eq!((heaviest.weight(), it.cache.usage(), it.cache.entries(), it.left()), (usize::MAX, usize::MAX, 4, vec![]));
+    assert_eq!(
+        (heaviest.weight(), it.cache.usage(), it.cache.entries(), it.left()),
+        (usize::MAX, usize::MAX, 4, vec![])
+    );
     let next = it.cache.insert(3, (1 << 63) - 1);
     assert_eq!((next.weight(), it.left()), ((1 << 63) - 1, all(Event::Evict, [1])));
     assert_eq!(it.cache.usage(), (1 << 63) - 1 + (1 << 62) + (1 << 32) - 7);

@@ -171,14 +171,22 @@ where
     ///
     /// # Errors
     /// F9 if the handle count would overflow, and those of `try_insert`.
-    pub fn try_set_time_to_live<Q: Hash + Equivalent<K> + ?Sized>(&self, key: &Q, time_to_live: Option<Duration>) -> Result<bool>
+    pub fn try_set_time_to_live<Q: Hash + Equivalent<K> + ?Sized>(
+        &self,
+        key: &Q,
+        time_to_live: Option<Duration>,
+    ) -> Result<bool>
     where
         V: Clone,
     {
         Ok(self.expire_inner(key, time_to_live)?)
     }
 
-    fn expire_inner<Q: Hash + Equivalent<K> + ?Sized>(&self, key: &Q, time_to_live: Option<Duration>) -> foyer_policy::Result<bool>
+    fn expire_inner<Q: Hash + Equivalent<K> + ?Sized>(
+        &self,
+        key: &Q,
+        time_to_live: Option<Duration>,
+    ) -> foyer_policy::Result<bool>
     where
         V: Clone,
     {

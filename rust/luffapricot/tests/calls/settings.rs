@@ -119,7 +119,14 @@ fn a_setter_keeps_what_others_set() {
     has_all(empty().with_time_to_live(life).with_phantom(true).with_hint(Hint::Low));
     has_all(Properties::with_hint(empty().with_time_to_live(life).with_phantom(true), Hint::Low));
     has_all(empty().with_hint(Hint::Low).with_time_to_live(life).with_phantom(true));
-    has_all(empty().with_hint(Hint::Low).with_time_to_live(life).with_phantom(true).with_location(Location::OnDisk).with_age(Age::Old));
+    has_all(
+        empty()
+            .with_hint(Hint::Low)
+            .with_time_to_live(life)
+            .with_phantom(true)
+            .with_location(Location::OnDisk)
+            .with_age(Age::Old),
+    );
 }
 
 #[test]
@@ -185,7 +192,9 @@ fn an_entry_says_where_it_came_from() {
     let cache: Cache<u64, u64> = Cache::<u64, u64>::builder(10).build();
     assert_eq!(cache.insert(1, 1).source(), Source::Outer);
     assert_eq!(cache.get(&1).map(|entry| entry.source()), Some(Source::Memory));
-    let fetched = |key: &u64| common::block_on(cache.get_or_fetch(key, || async { Ok::<_, BoxError>(2) })).map(|entry| entry.source());
+    let fetched = |key: &u64| {
+        common::block_on(cache.get_or_fetch(key, || async { Ok::<_, BoxError>(2) })).map(|entry| entry.source())
+    };
     assert_eq!((fetched(&2).unwrap(), fetched(&2).unwrap()), (Source::Outer, Source::Memory));
     let piece = cache.insert(3, 3).piece();
     cache.remove(&3);
@@ -196,8 +205,12 @@ fn an_entry_says_where_it_came_from() {
 #[test]
 fn each_parameter_reaches_its_policy() {
     let lfu = |window, protected, eps| {
-        let lfu =
-            LfuConfig { window_capacity_ratio: window, protected_capacity_ratio: protected, cmsketch_eps: eps, ..LfuConfig::default() };
+        let lfu = LfuConfig {
+            window_capacity_ratio: window,
+            protected_capacity_ratio: protected,
+            cmsketch_eps: eps,
+            ..LfuConfig::default()
+        };
         EvictionConfig::from(lfu)
     };
     let s3fifo = |small, ghost, threshold| {
@@ -209,8 +222,11 @@ fn each_parameter_reaches_its_policy() {
     };
     // What is resident after many gets of few keys and some of many.
     let resident = |config: EvictionConfig| {
-        let cache: Cache<u64, u64, ModHasher> =
-            CacheBuilder::new(60).with_shards(1).with_eviction_config(config).with_hash_builder(ModHasher::default()).build();
+        let cache: Cache<u64, u64, ModHasher> = CacheBuilder::new(60)
+            .with_shards(1)
+            .with_eviction_config(config)
+            .with_hash_builder(ModHasher::default())
+            .build();
         let mut random = common::Random::new(3);
         for _ in 0..3000 {
             let most = 1 + random.below(300);
@@ -274,7 +290,9 @@ impl Properties for Placed {
 #[test]
 fn a_record_that_is_to_be_on_disk_alone_is_not_kept_in_memory() {
     let cache: Cache<u64, u64, _, Placed> = CacheBuilder::new(10).build();
-    for (key, location, is_kept) in [(1, Location::Default, true), (2, Location::InMem, true), (3, Location::OnDisk, false)] {
+    for (key, location, is_kept) in
+        [(1, Location::Default, true), (2, Location::InMem, true), (3, Location::OnDisk, false)]
+    {
         let entry = cache.insert_with_properties(key, key, Placed::default().with_location(location));
         assert_eq!((*entry, entry.properties().location(), cache.contains(&key)), (key, Some(location), is_kept));
     }

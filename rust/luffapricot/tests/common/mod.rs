@@ -341,8 +341,14 @@ pub fn policies() -> [EvictionConfig; 5] {
     ["fifo", "lru", "lfu", "s3fifo", "sieve"].map(|name| name.parse().expect("a policy"))
 }
 
-pub fn builder(world: &Arc<World>, policy: EvictionConfig, capacity: usize, shards: usize) -> CacheBuilder<Name, Page, Build> {
-    let (weigher, filter, listener, clock) = (Arc::clone(world), Arc::clone(world), Arc::clone(world), Arc::clone(world));
+pub fn builder(
+    world: &Arc<World>,
+    policy: EvictionConfig,
+    capacity: usize,
+    shards: usize,
+) -> CacheBuilder<Name, Page, Build> {
+    let (weigher, filter, listener, clock) =
+        (Arc::clone(world), Arc::clone(world), Arc::clone(world), Arc::clone(world));
     CacheBuilder::new(capacity)
         .with_shards(shards)
         .with_eviction_config(policy)
@@ -386,7 +392,8 @@ fn quiet() {
         std::panic::set_hook(Box::new(move |info| {
             let text = info.payload().downcast_ref::<&str>().copied();
             let text = text.or_else(|| info.payload().downcast_ref::<String>().map(String::as_str)).unwrap_or("");
-            let is_wanted = ["boom", "the proof says", "a cache's lock is poisoned"].iter().any(|begin| text.starts_with(begin));
+            let is_wanted =
+                ["boom", "the proof says", "a cache's lock is poisoned"].iter().any(|begin| text.starts_with(begin));
             if !is_wanted {
                 before(info);
             }

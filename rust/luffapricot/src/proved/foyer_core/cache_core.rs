@@ -12,9 +12,7 @@ use crate::proved::foyer_core::properties::CacheProperties;
 use crate::proved::foyer_core::rules::Rules;
 use crate::proved::foyer_core::shard::Shard;
 use crate::proved::foyer_core::weighter::{UnitWeighter, Weighter};
-use crate::proved::foyer_policy::{
-    DefaultHasher, Error, Eviction, HashBuilder, Key, Properties, Reason, Result, Value,
-};
+use crate::proved::foyer_policy::{DefaultHasher, Error, Eviction, HashBuilder, Key, Properties, Reason, Result, Value};
 use load::Load;
 use crate::rattle_std::alloc::Global;
 
@@ -100,10 +98,7 @@ impl<
             load,
             capacity: config.capacity,
             hash_builder: config.hash_builder,
-            rules: Rules {
-                weighter: config.weighter,
-                filter: config.filter,
-            },
+            rules: Rules { weighter: config.weighter, filter: config.filter },
             alloc,
         })
     }
@@ -203,11 +198,7 @@ impl<
         match self.insert_with_properties_onto(now, key, value, properties, &mut leaves) {
             Ok(made) => {
                 let InsertedOnto { entry, answers } = made;
-                Ok(Inserted {
-                    entry,
-                    answers,
-                    leaves,
-                })
+                Ok(Inserted { entry, answers, leaves })
             }
             Err(error) => Err(Refused { error, leaves }),
         }

@@ -104,12 +104,7 @@ impl<K, V, P> CoreEntry<K, V, P> {
         told: bool,
     ) -> Option<Self> {
         let share = if told { Some(kept.body()?) } else { None };
-        Some(CoreEntry {
-            number,
-            id,
-            kept,
-            tail: Tail::new(source, slot, share),
-        })
+        Some(CoreEntry { number, id, kept, tail: Tail::new(source, slot, share) })
     }
 
     // The number of the core that made the entry.
@@ -184,11 +179,9 @@ impl<K, V, P> CoreEntry<K, V, P> {
     #[inline]
     pub fn left(&mut self) -> Option<Left<K, V, P>> {
         match self.tail.take_share() {
-            Some(body) => Some(Left::new(
-                self.number,
-                self.id,
-                Share::of_body(body, self.kept.hash(), self.kept.weight()),
-            )),
+            Some(body) => {
+                Some(Left::new(self.number, self.id, Share::of_body(body, self.kept.hash(), self.kept.weight())))
+            }
             None => None,
         }
     }
@@ -217,11 +210,7 @@ impl<K, V, P> CoreEntry<K, V, P> {
     /// Returns the entry's handle by its name, which `unhold` of its core spends. Its shares go.
     #[inline(always)]
     pub fn into_hold(self) -> Hold {
-        let hold = Hold {
-            hash: self.hash(),
-            id: self.id,
-            slot: self.slot(),
-        };
+        let hold = Hold { hash: self.hash(), id: self.id, slot: self.slot() };
         self.discard();
         hold
     }
@@ -229,12 +218,7 @@ impl<K, V, P> CoreEntry<K, V, P> {
     /// Discards an entry whose core is gone. No core changes.
     #[inline(always)]
     pub fn discard(self) {
-        let CoreEntry {
-            number: _,
-            id: _,
-            kept: _,
-            tail: _,
-        } = self;
+        let CoreEntry { number: _, id: _, kept: _, tail: _ } = self;
     }
 }
 

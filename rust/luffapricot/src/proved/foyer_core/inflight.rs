@@ -29,12 +29,7 @@ impl<N, R> Inflight<N, R> {
             return Err(Error::new(Reason::NoMemory));
         };
         waiters.push_reserved(waiting);
-        Ok(Inflight {
-            id,
-            opened: now,
-            waiters,
-            later: None,
-        })
+        Ok(Inflight { id, opened: now, waiters, later: None })
     }
 
     // Adds a waiter. Its builder is kept if the fetch has none. F7 if memory runs out; nothing has changed.
@@ -175,11 +170,7 @@ impl<K: Key, N, R> InflightManager<K, N, R> {
         let _ = self.inflights.insert(inflight);
         self.next_fetch += 1;
         self.next_token += 1;
-        Ok(Enqueue::Lead {
-            id,
-            token,
-            required_fetch_builder,
-        })
+        Ok(Enqueue::Lead { id, token, required_fetch_builder })
     }
 
     /// Closes a key's open fetch and returns its waiters, one or more. With an id, only that fetch.

@@ -21,10 +21,7 @@ pub struct Refused<K, V, P> {
 impl<K, V, P> Refused<K, V, P> {
     #[inline]
     pub(crate) fn new(reason: Reason, leaves: Vec<Leave<K, V, P>>) -> Self {
-        Refused {
-            error: Error::new(reason),
-            leaves,
-        }
+        Refused { error: Error::new(reason), leaves }
     }
 }
 
@@ -116,10 +113,7 @@ impl<K, V, P, N> Answers<K, V, P, N> {
     // Nobody waited.
     #[inline(always)]
     pub(crate) fn nobody(alloc: Global) -> Self {
-        Answers {
-            waiters: Vec::new(alloc),
-            outcome: Outcome::Entries(Vec::new(alloc)),
-        }
+        Answers { waiters: Vec::new(alloc), outcome: Outcome::Entries(Vec::new(alloc)) }
     }
 
     /// Returns the waiters in order, and what they get: an entry each in the same order, an empty list if they get
@@ -209,10 +203,7 @@ impl<K, V, P, N> Ended<K, V, P, N> {
     pub(crate) fn lost(alloc: Global) -> Self {
         Ended {
             found: false,
-            answers: Answers {
-                waiters: Vec::new(alloc),
-                outcome: Outcome::None,
-            },
+            answers: Answers { waiters: Vec::new(alloc), outcome: Outcome::None },
             leaves: Vec::new(alloc),
         }
     }
@@ -224,14 +215,7 @@ impl<K, V, P, N> Ended<K, V, P, N> {
         came: Result<Handles<K, V, P>, Error>,
         leaves: Vec<Leave<K, V, P>>,
     ) -> Self {
-        Ended {
-            found: true,
-            answers: Answers {
-                waiters,
-                outcome: Outcome::of(came),
-            },
-            leaves,
-        }
+        Ended { found: true, answers: Answers { waiters, outcome: Outcome::of(came) }, leaves }
     }
 }
 
@@ -276,10 +260,7 @@ impl<K, V, P: Default> From<V> for FetchTarget<K, V, P> {
     /// A value, with default properties.
     #[inline]
     fn from(value: V) -> Self {
-        FetchTarget::Entry {
-            value,
-            properties: P::default(),
-        }
+        FetchTarget::Entry { value, properties: P::default() }
     }
 }
 

@@ -49,12 +49,7 @@ impl<K, V, P> Piece<K, V, P> {
     // A piece with this share of a record's data. The record may be in this slot.
     #[inline]
     pub(crate) fn of_share(number: u64, id: u64, slot: usize, kept: Share<K, V, P>) -> Self {
-        Piece {
-            number,
-            id,
-            slot,
-            kept,
-        }
+        Piece { number, id, slot, kept }
     }
 }
 
@@ -108,9 +103,6 @@ impl<K, V, P> TryClone for Piece<K, V, P> {
 impl<K, V, P> Debug for Piece<K, V, P> {
     #[inline]
     fn fmt(&self, f: &mut fmt::Formatter<'_>) -> fmt::Result {
-        f.debug_struct("Piece")
-            .field("record", &self.id)
-            .field("hash", &self.kept.hash())
-            .finish()
+        f.debug_struct("Piece").field("record", &self.id).field("hash", &self.kept.hash()).finish()
     }
 }

@@ -20,12 +20,7 @@ impl Default for CacheProperties {
     /// Returns properties with no phantom flag, the normal hint and no expiry.
     #[inline]
     fn default() -> CacheProperties {
-        CacheProperties {
-            phantom: None,
-            hint: Hint::Normal,
-            moment: 0,
-            expires: false,
-        }
+        CacheProperties { phantom: None, hint: Hint::Normal, moment: 0, expires: false }
     }
 }
 
@@ -52,12 +47,7 @@ impl CacheProperties {
             Some(moment) => (true, moment),
             None => (false, 0),
         };
-        CacheProperties {
-            phantom: self.phantom,
-            hint: self.hint,
-            moment,
-            expires,
-        }
+        CacheProperties { phantom: self.phantom, hint: self.hint, moment, expires }
     }
 
     /// Returns the time at which the record expires, or `None` for never.
@@ -136,9 +126,5 @@ pub(crate) fn is_expired(expiry: Option<u64>, now: u64) -> bool {
 #[inline]
 pub fn marked<P: Properties>(properties: P, admitted: bool) -> P {
     let is_on_disk = matches!(properties.location(), Some(Location::OnDisk));
-    if !admitted || is_on_disk {
-        properties.with_phantom(true)
-    } else {
-        properties
-    }
+    if !admitted || is_on_disk { properties.with_phantom(true) } else { properties }
 }

@@ -32,16 +32,10 @@ pub struct Flags {
 
 impl Flags {
     /// The record is in the index.
-    pub const IN_INDEXER: Flags = Flags {
-        in_eviction: false,
-        in_indexer: true,
-    };
+    pub const IN_INDEXER: Flags = Flags { in_eviction: false, in_indexer: true };
 
     /// The record is in the policy.
-    pub const IN_EVICTION: Flags = Flags {
-        in_eviction: true,
-        in_indexer: false,
-    };
+    pub const IN_EVICTION: Flags = Flags { in_eviction: true, in_indexer: false };
 
     /// Returns 1 for `IN_INDEXER`, 2 for `IN_EVICTION`, and the sum for both.
     #[inline]
@@ -54,10 +48,7 @@ impl Flags {
     /// Returns the flags that are in either set.
     #[inline]
     pub fn union(self, other: Flags) -> Flags {
-        Flags {
-            in_eviction: self.in_eviction || other.in_eviction,
-            in_indexer: self.in_indexer || other.in_indexer,
-        }
+        Flags { in_eviction: self.in_eviction || other.in_eviction, in_indexer: self.in_indexer || other.in_indexer }
     }
 }
 
@@ -85,15 +76,7 @@ impl<K, V, P> Record<K, V, P> {
     // A record with this share of its data, so many handles and no flags.
     #[inline(always)]
     pub(crate) fn of_share(kept: Share<K, V, P>, refs: usize) -> Self {
-        Record {
-            kept,
-            state: None,
-            refs,
-            flags: Flags {
-                in_eviction: false,
-                in_indexer: false,
-            },
-        }
+        Record { kept, state: None, refs, flags: Flags { in_eviction: false, in_indexer: false } }
     }
 
     /// Returns the key.
@@ -232,9 +215,6 @@ impl Default for Limits {
     /// No limit but those of the types.
     #[inline]
     fn default() -> Limits {
-        Limits {
-            handles: usize::MAX,
-            ids: u64::MAX,
-        }
+        Limits { handles: usize::MAX, ids: u64::MAX }
     }
 }

@@ -22,10 +22,7 @@ pub struct Records<K, V, P> {
 impl<K, V, P> Records<K, V, P> {
     #[inline]
     pub fn new(alloc: Global) -> Self {
-        Records {
-            slots: Slots::new(alloc),
-            ids: Ids::new(alloc),
-        }
+        Records { slots: Slots::new(alloc), ids: Ids::new(alloc) }
     }
 
     /// Makes room for one record.

@@ -41,12 +41,6 @@ impl<W, A> Rules<W, A> {
         A: Filter<K, V>,
     {
         let (weight, properties) = self.judge(&key, &value, properties);
-        Data {
-            key,
-            value,
-            properties,
-            hash,
-            weight,
-        }
+        Data { key, value, properties, hash, weight }
     }
 }

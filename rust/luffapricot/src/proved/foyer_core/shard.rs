@@ -48,10 +48,7 @@ impl<E: Eviction, K: Key, V: Value, P: Properties, N, R, I: Finder<K>> Shard<E, 
         index: I,
     ) -> Result<Self> {
         match Store::new(alloc, number, capacity, limits, config, index) {
-            Ok(store) => Ok(Shard {
-                store,
-                inflights: InflightManager::new(alloc),
-            }),
+            Ok(store) => Ok(Shard { store, inflights: InflightManager::new(alloc) }),
             Err(error) => Err(error),
         }
     }

@@ -28,35 +28,12 @@ impl<K, V, P> Share<K, V, P> {
     /// Creates the first share of these data. If memory runs out, they come back as `Err`.
     #[inline(always)]
     pub fn new(alloc: Global, kept: Data<K, V, P>) -> crate::rattle_std::result::Result<Self, Data<K, V, P>> {
-        let Data {
-            key,
-            value,
-            properties,
-            hash,
-            weight,
-        } = kept;
-        match Arc::new(
-            alloc,
-            Body {
-                key,
-                value,
-                properties,
-            },
-        ) {
+        let Data { key, value, properties, hash, weight } = kept;
+        match Arc::new(alloc, Body { key, value, properties }) {
             Ok(body) => Ok(Share { body, hash, weight }),
             Err(failed) => {
-                let Body {
-                    key,
-                    value,
-                    properties,
-                } = failed.value;
-                Err(Data {
-                    key,
-                    value,
-                    properties,
-                    hash,
-                    weight,
-                })
+                let Body { key, value, properties } = failed.value;
+                Err(Data { key, value, properties, hash, weight })
             }
         }
     }
@@ -90,11 +67,7 @@ impl<K, V, P> Share<K, V, P> {
     /// Returns one more share, or nothing if the reference count is full.
     #[inline(always)]
     pub fn another(&self) -> Option<Self> {
-        Some(Share {
-            body: self.body()?,
-            hash: self.hash,
-            weight: self.weight,
-        })
+        Some(Share { body: self.body()?, hash: self.hash, weight: self.weight })
     }
 
     /// Returns one more share.

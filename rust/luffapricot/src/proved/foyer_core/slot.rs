@@ -30,14 +30,7 @@ impl<K, V, P> Slot<K, V, P> {
     #[inline(always)]
     pub fn outside(kept: Share<K, V, P>, id: u64, handles: usize) -> Self {
         let (body, hash, weight) = kept.into_parts();
-        Slot {
-            id,
-            body,
-            hash,
-            handles,
-            leave: None,
-            weight,
-        }
+        Slot { id, body, hash, handles, leave: None, weight }
     }
 
     /// Gives the record the share with which it leaves.
@@ -181,13 +174,7 @@ impl<K, V, P> Slot<K, V, P> {
     /// Returns what leaves, in the core of this number.
     #[inline(always)]
     pub fn into_left(self, number: u64) -> Left<K, V, P> {
-        let Slot {
-            id,
-            body,
-            hash,
-            weight,
-            ..
-        } = self;
+        let Slot { id, body, hash, weight, .. } = self;
         Left::new(number, id, Share::of_body(body, hash, weight))
     }
 }

@@ -45,11 +45,7 @@ impl<T> Slots<T> {
     /// Creates slots with no value and no room. Takes no memory.
     #[inline]
     pub fn new(alloc: Global) -> Self {
-        Slots {
-            cells: Vec::new(alloc),
-            free: Link::end(),
-            vacant: 0,
-        }
+        Slots { cells: Vec::new(alloc), free: Link::end(), vacant: 0 }
     }
 
     /// Makes room for one more value. If memory runs out, nothing has changed.
@@ -124,11 +120,7 @@ impl<T> Slots<T> {
     /// Returns the value in a slot for writing, if it has one.
     #[inline(always)]
     pub fn get_mut(&mut self, slot: usize) -> Option<&mut T> {
-        if self.contains(slot) {
-            Some(self.value_mut(slot))
-        } else {
-            None
-        }
+        if self.contains(slot) { Some(self.value_mut(slot)) } else { None }
     }
 
     // The value in a slot for writing. There must be one.

@@ -122,19 +122,8 @@ impl Stats {
     /// Adds the counts of others to these.
     #[inline]
     pub fn add(&mut self, other: &Stats) {
-        let Stats {
-            hits,
-            misses,
-            inserts,
-            evictions,
-            expired,
-            replaced,
-            removed,
-            cleared,
-            fetches,
-            waits,
-            refused,
-        } = other;
+        let Stats { hits, misses, inserts, evictions, expired, replaced, removed, cleared, fetches, waits, refused } =
+            other;
         *self = Stats {
             hits: self.hits.wrapping_add(*hits),
             misses: self.misses.wrapping_add(*misses),

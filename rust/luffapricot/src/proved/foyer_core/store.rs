@@ -107,8 +107,7 @@ impl<E: Eviction, K: Key, V: Value, P: Properties, I: Finder<K>> Store<E, K, V, 
     // The slot to which a key leads.
     #[inline(always)]
     fn slot_under(&self, hash: u64, key: &K) -> Option<usize> {
-        self.index
-            .find(hash, key, |slot| self.records.has_key(slot, hash, key))
+        self.index.find(hash, key, |slot| self.records.has_key(slot, hash, key))
     }
 
     // What the shard's numbers are below.

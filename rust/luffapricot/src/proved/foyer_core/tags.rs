@@ -51,14 +51,7 @@ impl Tags {
     // No slots, over so many homes.
     #[inline]
     fn over(alloc: Global, bits: u32) -> Self {
-        Tags {
-            buckets: Buckets::new(alloc),
-            bits,
-            end: homes_of(bits),
-            len: 0,
-            limit: limit_of(bits),
-            alloc,
-        }
+        Tags { buckets: Buckets::new(alloc), bits, end: homes_of(bits), len: 0, limit: limit_of(bits), alloc }
     }
 
     /// Returns the number of slots.
@@ -105,8 +98,7 @@ impl Tags {
             return Err(AllocError);
         };
         if self.buckets.len() < wanted {
-            self.buckets
-                .reserve(wanted.saturating_add(self.end / 64 + SPARE))?;
+            self.buckets.reserve(wanted.saturating_add(self.end / 64 + SPARE))?;
         }
         Ok(())
     }
@@ -143,9 +135,7 @@ impl Tags {
     // Enters a tag whose slot is new. Needs room.
     #[inline(always)]
     fn put(&mut self, tag: Tag) {
-        let bucket = self
-            .buckets
-            .first_empty(home_of(tag.fingerprint, self.bits), self.end);
+        let bucket = self.buckets.first_empty(home_of(tag.fingerprint, self.bits), self.end);
         self.buckets.put(bucket, tag);
         self.end = self.end.max(bucket + 1);
         self.len += 1;
@@ -165,9 +155,7 @@ impl Tags {
     /// Removes a slot from under a hash, and returns whether it was there. Takes no memory.
     #[inline(always)]
     pub fn remove(&mut self, hash: u64, slot: usize) -> bool {
-        let found = self
-            .buckets
-            .find(self.bits, fingerprint_of(hash), |other| other == slot);
+        let found = self.buckets.find(self.bits, fingerprint_of(hash), |other| other == slot);
         let Some(found) = found else {
             return false;
         };

@@ -86,22 +86,9 @@ where
     /// Sets the hash builder of the keys.
     #[inline]
     pub fn with_hash_builder<X: HashBuilder>(self, hash_builder: X) -> CacheBuilder<K, V, X, W, A, L> {
-        let CacheBuilder {
-            config,
-            listener,
-            time_to_live,
-            keys,
-        } = self;
-        let RawCacheConfig {
-            capacity,
-            shards,
-            eviction_config,
-            hash_builder: _,
-            weighter,
-            filter,
-            number,
-            limits,
-        } = config;
+        let CacheBuilder { config, listener, time_to_live, keys } = self;
+        let RawCacheConfig { capacity, shards, eviction_config, hash_builder: _, weighter, filter, number, limits } =
+            config;
         CacheBuilder {
             config: RawCacheConfig {
                 capacity,
@@ -122,35 +109,15 @@ where
     /// Sets the weighter, which gives each record its weight.
     #[inline]
     pub fn with_weighter<X: Weighter<K, V>>(self, weighter: X) -> CacheBuilder<K, V, S, X, A, L> {
-        let CacheBuilder {
-            config,
-            listener,
-            time_to_live,
-            keys,
-        } = self;
-        CacheBuilder {
-            config: config.with_weighter(weighter),
-            listener,
-            time_to_live,
-            keys,
-        }
+        let CacheBuilder { config, listener, time_to_live, keys } = self;
+        CacheBuilder { config: config.with_weighter(weighter), listener, time_to_live, keys }
     }
 
     /// Sets the filter. A record that it refuses is held by its entry alone, and no `get` finds it.
     #[inline]
     pub fn with_filter<X: Filter<K, V>>(self, filter: X) -> CacheBuilder<K, V, S, W, X, L> {
-        let CacheBuilder {
-            config,
-            listener,
-            time_to_live,
-            keys,
-        } = self;
-        CacheBuilder {
-            config: config.with_filter(filter),
-            listener,
-            time_to_live,
-            keys,
-        }
+        let CacheBuilder { config, listener, time_to_live, keys } = self;
+        CacheBuilder { config: config.with_filter(filter), listener, time_to_live, keys }
     }
 
     /// Sets the listener, which is told of each record that leaves.
@@ -159,17 +126,7 @@ where
         self,
         listener: X,
     ) -> CacheBuilder<K, V, S, W, A, X> {
-        let CacheBuilder {
-            config,
-            listener: _,
-            time_to_live,
-            keys,
-        } = self;
-        CacheBuilder {
-            config,
-            listener,
-            time_to_live,
-            keys,
-        }
+        let CacheBuilder { config, listener: _, time_to_live, keys } = self;
+        CacheBuilder { config, listener, time_to_live, keys }
     }
 }

@@ -71,11 +71,7 @@ where
     /// Returns the cache with its policy in the type, or unchanged if its policy isn't the one that `C` configures.
     #[inline]
     pub fn of_policy<C: PolicyConfig>(self) -> crate::rattle_std::result::Result<Of<C, Self>, Self> {
-        if self.kind == C::kind() {
-            Ok(Of::new_of(self))
-        } else {
-            Err(self)
-        }
+        if self.kind == C::kind() { Ok(Of::new_of(self)) } else { Err(self) }
     }
 
     /// Returns another owner of the same cache, with the same pipe.
@@ -94,10 +90,7 @@ where
     #[inline]
     pub fn with_pipe(self, pipe: Arc<Q>) -> Self {
         let Cache { cache, kind } = self;
-        Cache {
-            cache: cache.with_pipe(pipe),
-            kind,
-        }
+        Cache { cache: cache.with_pipe(pipe), kind }
     }
 
     /// Returns the capacity, a total weight, as the last `resize` or else the builder set it.

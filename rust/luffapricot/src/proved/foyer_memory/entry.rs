@@ -7,9 +7,7 @@ use crate::proved::foyer_memory::kind::Kind;
 use crate::proved::foyer_memory::of::Of;
 use crate::proved::foyer_memory::policy_config::PolicyConfig;
 use crate::proved::foyer_core::{AdmitAll, CacheProperties, Finder, Piece, TagFinder, UnitWeighter};
-use crate::proved::foyer_policy::{
-    AnyEviction, DefaultHasher, EventListener, Key, Properties, Result, Source, Value,
-};
+use crate::proved::foyer_policy::{AnyEviction, DefaultHasher, EventListener, Key, Properties, Result, Source, Value};
 use crate::proved::foyer_raw::{FetchTypes, NoFetch, NoListener, NoopPipe, Pipe, RawCacheEntry};
 use crate::rattle_std::fmt::{self, Debug};
 use crate::rattle_std::ops::Deref;
@@ -65,11 +63,7 @@ where
     /// Returns the entry with its policy in the type, or unchanged if its policy isn't the one that `C` configures.
     #[inline]
     pub fn of_policy<C: PolicyConfig>(self) -> crate::rattle_std::result::Result<Of<C, Self>, Self> {
-        if self.kind == C::kind() {
-            Ok(Of::new_of(self))
-        } else {
-            Err(self)
-        }
+        if self.kind == C::kind() { Ok(Of::new_of(self)) } else { Err(self) }
     }
 
     /// Returns the hash of the key.

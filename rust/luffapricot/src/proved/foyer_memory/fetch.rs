@@ -79,11 +79,7 @@ where
     /// Returns the look-up with its policy in the type, or unchanged if its policy isn't the one that `C` configures.
     #[inline]
     pub fn of_policy<C: PolicyConfig>(self) -> crate::rattle_std::result::Result<Of<C, Self>, Self> {
-        if self.kind == C::kind() {
-            Ok(Of::new_of(self))
-        } else {
-            Err(self)
-        }
+        if self.kind == C::kind() { Ok(Of::new_of(self)) } else { Err(self) }
     }
 
     /// Returns whether the look-up missed, so that its entry is still to come.
@@ -115,10 +111,7 @@ where
         cx: &mut Context<'_>,
     ) -> Poll<Result<Option<CacheEntry<H, K, V, S, P, W, A, L, Q, T, I>>>> {
         match self.look.poll(cx) {
-            Poll::Ready(Ok(Some(entry))) => Poll::Ready(Ok(Some(CacheEntry {
-                entry,
-                kind: self.kind,
-            }))),
+            Poll::Ready(Ok(Some(entry))) => Poll::Ready(Ok(Some(CacheEntry { entry, kind: self.kind }))),
             Poll::Ready(Ok(None)) => Poll::Ready(Ok(None)),
             Poll::Ready(Err(error)) => Poll::Ready(Err(error)),
             Poll::Pending => Poll::Pending,

@@ -23,8 +23,7 @@ pub use crate::proved::foyer_policy::{
     Eviction, EvictionConfig, FifoConfig, LfuConfig, LruConfig, S3FifoConfig, SieveConfig,
 };
 pub use crate::proved::foyer_raw::{
-    Notifier, OptionalFetch, OptionalFetchBuilder, Pipe, Replaced, RequiredFetch, RequiredFetchBuilder,
-    Waiter,
+    Notifier, OptionalFetch, OptionalFetchBuilder, Pipe, Replaced, RequiredFetch, RequiredFetchBuilder, Waiter,
 };
 pub use kind::Kind;
 pub use of::Of;

@@ -26,10 +26,7 @@ impl<C, X> Of<C, X> {
     // This one, which is of the policy.
     #[inline]
     pub(crate) fn new_of(inner: X) -> Self {
-        Of {
-            inner,
-            policy: PhantomData,
-        }
+        Of { inner, policy: PhantomData }
     }
 }
 
@@ -72,10 +69,7 @@ where
             limits: config.limits,
         };
         match RawCache::new(rt, alloc, config, listener) {
-            Ok(cache) => Ok(Of::new_of(Cache {
-                cache,
-                kind: C::kind(),
-            })),
+            Ok(cache) => Ok(Of::new_of(Cache { cache, kind: C::kind() })),
             Err(error) => Err(error),
         }
     }

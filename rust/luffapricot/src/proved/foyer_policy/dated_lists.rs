@@ -36,12 +36,7 @@ impl<T: HasItem, const N: usize> DatedLists<T, N> {
     /// the others no dates are kept.
     #[inline]
     pub(crate) fn new(alloc: Global, searched: u8) -> Self {
-        DatedLists {
-            lists: Lists::new(alloc),
-            dates: Tracking::Plain,
-            searched,
-            alloc,
-        }
+        DatedLists { lists: Lists::new(alloc), dates: Tracking::Plain, searched, alloc }
     }
 
     /// Makes room for `more` values beside those in the lists, and for one date if there is memory for that.

@@ -52,14 +52,7 @@ impl Dates {
             let row = Slots::new(alloc, count)?;
             rows.push(row)?;
         }
-        Ok(Dates {
-            rows,
-            limit: count.min(MOST),
-            used: 0,
-            taken: 0,
-            beside: 0,
-            alloc,
-        })
+        Ok(Dates { rows, limit: count.min(MOST), used: 0, taken: 0, beside: 0, alloc })
     }
 
     /// Returns how many lists have their dates kept, the first ones. Of the others only the number of dates is known.

@@ -19,11 +19,7 @@ pub(crate) fn due_at(item: Item, now: u64) -> bool {
 
 /// Returns the place of the first item of a list that is due at `now`, or `None`. Walks along the list.
 #[inline]
-pub(crate) fn first_of_list<T: HasItem, const N: usize>(
-    lists: &Lists<T, N>,
-    list: usize,
-    now: u64,
-) -> Option<Place> {
+pub(crate) fn first_of_list<T: HasItem, const N: usize>(lists: &Lists<T, N>, list: usize, now: u64) -> Option<Place> {
     let mut next = lists.front(list);
     while let Some(place) = next {
         if due_at(lists.get(place).item(), now) {
@@ -37,11 +33,7 @@ pub(crate) fn first_of_list<T: HasItem, const N: usize>(
 // As `first_of_lists`, if some items may expire.
 #[cold]
 #[inline(never)]
-fn first_of_each<T: HasItem, const N: usize>(
-    lists: &DatedLists<T, N>,
-    count: usize,
-    now: u64,
-) -> Option<Place> {
+fn first_of_each<T: HasItem, const N: usize>(lists: &DatedLists<T, N>, count: usize, now: u64) -> Option<Place> {
     for list in 0..count {
         let found = lists.first_due(list, now);
         if found.is_some() {

@@ -133,10 +133,7 @@ impl TryClone for Error {
     /// Returns the same error. A fault is shared, which fails if its reference count is full.
     #[inline]
     fn try_clone(&self) -> crate::rattle_std::result::Result<Error, AllocError> {
-        Ok(Error {
-            kind: self.kind,
-            reason: self.reason.try_clone()?,
-        })
+        Ok(Error { kind: self.kind, reason: self.reason.try_clone()? })
     }
 }
 
@@ -170,10 +167,7 @@ impl Error {
     /// Creates an error with this reason.
     #[inline]
     pub fn new(reason: Reason) -> Self {
-        Error {
-            kind: kind(&reason),
-            reason,
-        }
+        Error { kind: kind(&reason), reason }
     }
 
     /// Returns the kind.

@@ -39,10 +39,7 @@ impl Eviction for Fifo {
     #[inline]
     fn new(alloc: Global, _capacity: usize, config: &FifoConfig) -> Result<Self> {
         Self::check(config)?;
-        Ok(Fifo {
-            queue: DatedLists::new(alloc, 1),
-            alloc,
-        })
+        Ok(Fifo { queue: DatedLists::new(alloc, 1), alloc })
     }
 
     #[inline]

@@ -21,12 +21,7 @@ pub struct GhostQueue {
 
 // Drops pairs from the front until the rest weighs at most this, and returns what the rest weighs.
 #[inline]
-fn shrink(
-    pairs: &mut VecDeque<(u64, usize)>,
-    hashes: &mut HashSet<u64>,
-    weight: usize,
-    most: usize,
-) -> usize {
+fn shrink(pairs: &mut VecDeque<(u64, usize)>, hashes: &mut HashSet<u64>, weight: usize, most: usize) -> usize {
     let mut left = weight;
     while left > most {
         let Some((hash, weight)) = pairs.pop_front() else {
@@ -49,12 +44,7 @@ impl GhostQueue {
     /// Creates an empty queue. Takes no memory.
     #[inline]
     pub fn new(alloc: Global, capacity: usize) -> Self {
-        GhostQueue {
-            pairs: VecDeque::new(alloc),
-            hashes: HashSet::new(alloc),
-            capacity,
-            weight: 0,
-        }
+        GhostQueue { pairs: VecDeque::new(alloc), hashes: HashSet::new(alloc), capacity, weight: 0 }
     }
 
     /// Sets the capacity, and drops pairs from the front while they weigh more. With capacity 0 none is dropped.

@@ -15,9 +15,7 @@ impl Kept {
     /// Keeps an item.
     #[inline(always)]
     pub(crate) fn of(item: Item) -> Self {
-        Kept {
-            parts: Queued::of(item, ()),
-        }
+        Kept { parts: Queued::of(item, ()) }
     }
 
     /// Returns the item.

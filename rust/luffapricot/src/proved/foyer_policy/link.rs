@@ -26,10 +26,6 @@ impl Link {
     /// Returns the place that it leads to, or `None` at the end.
     #[inline(always)]
     pub fn place(self) -> Option<usize> {
-        if self.place == usize::MAX {
-            None
-        } else {
-            Some(self.place)
-        }
+        if self.place == usize::MAX { None } else { Some(self.place) }
     }
 }

@@ -73,22 +73,13 @@ impl<T, const N: usize> Lists<T, N> {
     #[inline(always)]
     pub fn next_place(&self) -> Place {
         let Lists { nodes, .. } = self;
-        Place {
-            node: nodes.first_free(),
-        }
+        Place { node: nodes.first_free() }
     }
 
     /// Appends a value to a list at a free place below the span, which the caller chooses. `list` is below `N`.
     #[inline(always)]
     pub fn push_back_at(&mut self, list: usize, place: Place, value: T) {
-        link_back(
-            &mut self.nodes,
-            &mut self.heads,
-            &mut self.tails,
-            list,
-            place.node,
-            value,
-        );
+        link_back(&mut self.nodes, &mut self.heads, &mut self.tails, list, place.node, value);
     }
 
     /// Appends a value to a list, and returns its place. `list` is below `N`. Needs reserved room.
@@ -129,13 +120,7 @@ impl<T, const N: usize> Lists<T, N> {
     #[inline(always)]
     pub fn move_back(&mut self, place: Place, list: usize) {
         unlink(&mut self.nodes, &mut self.heads, &mut self.tails, place.node);
-        relink(
-            &mut self.nodes,
-            &mut self.heads,
-            &mut self.tails,
-            list,
-            place.node,
-        );
+        relink(&mut self.nodes, &mut self.heads, &mut self.tails, list, place.node);
     }
 
     /// Returns the value at a place for writing. The place must have a value.
@@ -166,11 +151,7 @@ impl<T, const N: usize> Drop for Lists<T, N> {
         for list in 0..self.count() {
             self.clear(list);
         }
-        let Lists {
-            nodes,
-            heads: _,
-            tails: _,
-        } = self;
+        let Lists { nodes, heads: _, tails: _ } = self;
         let nodes = unsafe { ::std::mem::ManuallyDrop::take(nodes) };
         nodes.destroy_empty();
     }

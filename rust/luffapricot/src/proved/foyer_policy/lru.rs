@@ -31,9 +31,7 @@ impl Default for LruConfig {
     /// Returns a pool of nine tenths.
     #[inline]
     fn default() -> LruConfig {
-        LruConfig {
-            high_priority_pool_ratio: Ratio { num: 9, den: 10 },
-        }
+        LruConfig { high_priority_pool_ratio: Ratio { num: 9, den: 10 } }
     }
 }
 
@@ -81,11 +79,7 @@ impl Eviction for Lru {
     // The ratio of the pool: F2 for a denominator of 0, F3 above 1.
     #[inline]
     fn check(config: &LruConfig) -> Result<()> {
-        check_ratio(
-            Range::Closed,
-            Field::HighPriorityPool,
-            config.high_priority_pool_ratio,
-        )
+        check_ratio(Range::Closed, Field::HighPriorityPool, config.high_priority_pool_ratio)
     }
 
     #[inline]
@@ -205,10 +199,7 @@ impl Eviction for Lru {
         if state.pinned {
             return;
         }
-        let pinned = LruState {
-            pinned: true,
-            ..state
-        };
+        let pinned = LruState { pinned: true, ..state };
         relist(&mut self.lists, place, pinned, PIN);
         self.pinned_weight += item.weight;
         if state.high {
@@ -224,10 +215,7 @@ impl Eviction for Lru {
         if !state.pinned {
             return;
         }
-        let unpinned = LruState {
-            pinned: false,
-            ..state
-        };
+        let unpinned = LruState { pinned: false, ..state };
         self.pinned_weight -= item.weight;
         if !state.high {
             relist(&mut self.lists, place, unpinned, LOW);

@@ -85,11 +85,7 @@ impl MinTree {
         let Ok(nodes) = Vec::from_elem(alloc, u64::MAX, 4 * first - 2) else {
             return Err(Error::new(Reason::NoMemory));
         };
-        Ok(MinTree {
-            nodes,
-            first_leaf: first,
-            marked: 0,
-        })
+        Ok(MinTree { nodes, first_leaf: first, marked: 0 })
     }
 
     /// Returns the number at an index.

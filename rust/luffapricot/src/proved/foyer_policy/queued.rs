@@ -64,16 +64,7 @@ impl<S> Queued<S> {
             Some(moment) => (true, moment),
             None => (false, 0),
         };
-        Queued {
-            slot: 0,
-            hint: item.hint,
-            expires,
-            state,
-            hash: item.hash,
-            weight: item.weight,
-            id: item.id,
-            moment,
-        }
+        Queued { slot: 0, hint: item.hint, expires, state, hash: item.hash, weight: item.weight, id: item.id, moment }
     }
 
     /// Returns the item.

@@ -66,13 +66,8 @@ impl S3Fifo {
     // Removes the victim, for which the ghost queue has room, and returns it with its place.
     #[inline]
     fn pop_reserved(&mut self) -> Option<(Place, Item)> {
-        let victim = pop_victim(
-            &mut self.queues,
-            &mut self.small_weight,
-            &mut self.ghost_queue,
-            self.limit,
-            self.threshold,
-        );
+        let victim =
+            pop_victim(&mut self.queues, &mut self.small_weight, &mut self.ghost_queue, self.limit, self.threshold);
         match victim {
             Some(victim) => {
                 self.looks = victim.looks;
@@ -153,10 +148,7 @@ impl Eviction for S3Fifo {
     #[inline(always)]
     fn push_at(&mut self, place: Place, item: Item) {
         let is_main = self.ghost_queue.contains(item.hash);
-        let state = S3FifoState {
-            is_main,
-            ..S3FifoState::default()
-        };
+        let state = S3FifoState { is_main, ..S3FifoState::default() };
         if is_main {
             self.queues.push_back_at(MAIN, place, Queued::of(item, state));
             return;
@@ -201,10 +193,7 @@ impl Eviction for S3Fifo {
     #[inline(always)]
     fn acquire(&mut self, place: Place) {
         let state = self.queues.get(place).state();
-        let used = S3FifoState {
-            frequency: state.frequency.saturating_add(1).min(MOST),
-            ..state
-        };
+        let used = S3FifoState { frequency: state.frequency.saturating_add(1).min(MOST), ..state };
         self.queues.set_state(place, used);
     }
 

@@ -85,12 +85,7 @@ fn take_victim(queue: &mut DatedLists<Node, 1>, start: Place) -> Victim {
     }
     let hand = queue.next(at);
     let item = queue.remove(at).whole();
-    Victim {
-        item,
-        at,
-        hand,
-        looks,
-    }
+    Victim { item, at, hand, looks }
 }
 
 // How many records `next_victim` reads.
@@ -129,12 +124,7 @@ impl Eviction for Sieve {
     #[inline]
     fn new(alloc: Global, _capacity: usize, config: &SieveConfig) -> Result<Self> {
         Self::check(config)?;
-        Ok(Sieve {
-            queue: DatedLists::new(alloc, 1),
-            hand: None,
-            looks: 0,
-            alloc,
-        })
+        Ok(Sieve { queue: DatedLists::new(alloc, 1), hand: None, looks: 0, alloc })
     }
 
     #[inline]
@@ -186,12 +176,7 @@ impl Eviction for Sieve {
             return Ok(None);
         };
         let start = self.hand.unwrap_or(front);
-        let Victim {
-            item,
-            at,
-            hand,
-            looks,
-        } = take_victim(&mut self.queue, start);
+        let Victim { item, at, hand, looks } = take_victim(&mut self.queue, start);
         self.hand = hand;
         self.looks = looks;
         Ok(Some((at, item)))

@@ -31,19 +31,13 @@ pub struct Sketch {
 // The bucket in a row, of a hash that is mixed for it.
 #[inline]
 fn bucket_in(number: u64, row: usize, buckets: u32) -> usize {
-    if row == 0 {
-        (number % buckets as u64) as usize
-    } else {
-        ((number >> 32) as u32 % buckets) as usize
-    }
+    if row == 0 { (number % buckets as u64) as usize } else { ((number >> 32) as u32 % buckets) as usize }
 }
 
 // A hash that is mixed for a row, mixed for the next.
 #[inline]
 fn mixed_next(number: u64) -> u64 {
-    number
-        .wrapping_mul(6364136223846793005)
-        .wrapping_add(1442695040888963407)
+    number.wrapping_mul(6364136223846793005).wrapping_add(1442695040888963407)
 }
 
 // Halves the 32 counters of one chunk.
@@ -114,12 +108,7 @@ impl Sketch {
         let Ok(counters) = Vec::from_elem(alloc, 0, rows * buckets as usize) else {
             return Err(Error::new(Reason::NoMemory));
         };
-        Ok(Sketch {
-            counters,
-            rows,
-            buckets,
-            step: 0,
-        })
+        Ok(Sketch { counters, rows, buckets, step: 0 })
     }
 
     /// Counts a hash: adds 1 to its counter in each row, up to the largest number, and to the step. If the step then

@@ -13,8 +13,8 @@ use crate::proved::foyer_raw::shares::Shares;
 use crate::proved::foyer_raw::stripes::Stripes;
 use crate::proved::foyer_raw::ticket::{Answer, Notifier};
 use crate::proved::foyer_core::{
-    AdmitAll, CacheCore, CacheProperties, Filter, Finder, RawCacheConfig, Rules, Stats, TagFinder,
-    UnitWeighter, Weighter,
+    AdmitAll, CacheCore, CacheProperties, Filter, Finder, RawCacheConfig, Rules, Stats, TagFinder, UnitWeighter,
+    Weighter,
 };
 use crate::proved::foyer_policy::{
     DefaultHasher, Error, EventListener, Eviction, HashBuilder, Key, Properties, Reason, Result, Value,
@@ -78,38 +78,21 @@ where
     /// # Errors
     /// F1 if there are no shards, F2 to F6 for the first fault of the policy's configuration, F7 if memory runs out.
     #[inline]
-    pub fn new(
-        rt: H,
-        alloc: Global,
-        config: RawCacheConfig<E::Config, S, W, A>,
-        listener: L,
-    ) -> Result<Self> {
+    pub fn new(rt: H, alloc: Global, config: RawCacheConfig<E::Config, S, W, A>, listener: L) -> Result<Self> {
         if config.shards == 0 {
             return Err(Error::new(Reason::NoShards));
         }
-        let made = CacheCore::<E, K, V, P, S, W, A, Notifier<Answer<K, V, P>>, T::Required, I>::new_shards(
-            alloc, &config,
-        )?;
+        let made =
+            CacheCore::<E, K, V, P, S, W, A, Notifier<Answer<K, V, P>>, T::Required, I>::new_shards(alloc, &config)?;
         let shared = Shared {
-            shards: ::std::mem::ManuallyDrop::new(Shards::new(
-                rt,
-                alloc,
-                made,
-                Capacity::new(config.capacity),
-            )?),
+            shards: ::std::mem::ManuallyDrop::new(Shards::new(rt, alloc, made, Capacity::new(config.capacity))?),
             hash_builder: Arc::new(alloc, config.hash_builder)?,
-            rules: Rules {
-                weighter: config.weighter,
-                filter: config.filter,
-            },
+            rules: Rules { weighter: config.weighter, filter: config.filter },
             listener,
         };
         let stripes = Stripes::new(alloc, shared, config.shards)?;
         Ok(RawCache {
-            shares: Shares {
-                shared: stripes.share(0)?,
-                pipe: None,
-            },
+            shares: Shares { shared: stripes.share(0)?, pipe: None },
             stripes: Arc::new(alloc, stripes)?,
             time_to_live: None,
         })
@@ -153,20 +136,9 @@ where
     /// Those made before keep the pipe that they had.
     #[inline]
     pub fn with_pipe(self, pipe: Arc<Q>) -> Self {
-        let RawCache {
-            shares,
-            stripes,
-            time_to_live,
-        } = self;
+        let RawCache { shares, stripes, time_to_live } = self;
         let Shares { shared, pipe: _ } = shares;
-        RawCache {
-            shares: Shares {
-                shared,
-                pipe: Some(pipe),
-            },
-            stripes,
-            time_to_live,
-        }
+        RawCache { shares: Shares { shared, pipe: Some(pipe) }, stripes, time_to_live }
     }
 
     /// Returns the capacity, a total weight, as the last `resize` or else the configuration set it.

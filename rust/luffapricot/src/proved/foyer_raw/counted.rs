@@ -47,12 +47,7 @@ impl<E: Eviction, K: Key, V: Value, P: Properties, R, I: Finder<K>> CountedShard
     /// Creates a shard of which nothing was counted yet.
     #[inline]
     pub fn new(alloc: Global, shard: RawShard<E, K, V, P, R, I>) -> Self {
-        CountedShard {
-            stats: Stats::default(),
-            shard,
-            left: Vec::new(alloc),
-            apart: [0; 16],
-        }
+        CountedShard { stats: Stats::default(), shard, left: Vec::new(alloc), apart: [0; 16] }
     }
 
     /// Returns the shard.

@@ -64,10 +64,7 @@ where
     // Makes the entry of a handle.
     #[inline]
     pub(crate) fn new(shares: Shares<H, E, K, V, S, P, W, A, L, Q, R, I>, core: CoreEntry<K, V, P>) -> Self {
-        RawCacheEntry {
-            shares,
-            core: ::std::mem::ManuallyDrop::new(core),
-        }
+        RawCacheEntry { shares, core: ::std::mem::ManuallyDrop::new(core) }
     }
 
     // The handle.
@@ -188,14 +185,7 @@ where
 {
     #[inline]
     fn fmt(&self, f: &mut fmt::Formatter<'_>) -> fmt::Result {
-        f.debug_struct("RawCacheEntry")
-            .field(
-                "record",
-                &Named {
-                    hash: self.core.hash(),
-                },
-            )
-            .finish()
+        f.debug_struct("RawCacheEntry").field("record", &Named { hash: self.core.hash() }).finish()
     }
 }
 

@@ -22,10 +22,7 @@ impl<F: Future<Output = ()>> Flush<F> {
     // Makes a flush that waits for this future, which may be polled, and then gives this result.
     #[inline]
     pub(crate) fn new(inner: Option<F>, done: Result<()>) -> Self {
-        Flush {
-            inner,
-            refused: done.err(),
-        }
+        Flush { inner, refused: done.err() }
     }
 }
 

@@ -18,11 +18,7 @@ impl<K, V, P> Leaves<K, V, P> {
     /// Nothing.
     #[inline(always)]
     pub fn new(alloc: Global) -> Self {
-        Leaves {
-            first: None,
-            second: None,
-            more: Vec::new(alloc),
-        }
+        Leaves { first: None, second: None, more: Vec::new(alloc) }
     }
 
     // Takes all from a list, which keeps its room if at most two are in it.

@@ -25,8 +25,8 @@ pub use cache::RawCache;
 pub use counted::{At, Capacity, CountedShard, Hashed};
 pub use entry::RawCacheEntry;
 pub use fetch::{
-    AllTasks, Direct, FetchTypes, Given, ListSpawner, NoFetch, OptionalFetch, OptionalFetchBuilder, Pollable,
-    RawFetch, RawFetchState, RawGetOrFetch, RawWait, RequiredFetch, RequiredFetchBuilder, Spawner, TaskEvent,
+    AllTasks, Direct, FetchTypes, Given, ListSpawner, NoFetch, OptionalFetch, OptionalFetchBuilder, Pollable, RawFetch,
+    RawFetchState, RawGetOrFetch, RawWait, RequiredFetch, RequiredFetchBuilder, Spawner, TaskEvent,
 };
 pub use flush::{Flush, FlushIf};
 pub use listener::{NoListener, tell};

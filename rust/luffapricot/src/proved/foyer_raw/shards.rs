@@ -41,18 +41,8 @@ where
 {
     // These shards, which share a capacity. Only memory can be missing (F7).
     #[inline]
-    pub(crate) fn new(
-        rt: H,
-        alloc: Global,
-        made: Vec<RawShard<E, K, V, P, R, I>>,
-        capacity: Capacity,
-    ) -> Result<Self> {
-        Ok(Shards {
-            rt,
-            all: locked(alloc, made)?,
-            capacity: Mutex::new(capacity),
-            alloc,
-        })
+    pub(crate) fn new(rt: H, alloc: Global, made: Vec<RawShard<E, K, V, P, R, I>>, capacity: Capacity) -> Result<Self> {
+        Ok(Shards { rt, all: locked(alloc, made)?, capacity: Mutex::new(capacity), alloc })
     }
 
     // How many there are.

@@ -38,12 +38,7 @@ where
 {
     #[inline]
     fn drop(&mut self) {
-        let Shared {
-            shards,
-            hash_builder: _,
-            rules: _,
-            listener,
-        } = self;
+        let Shared { shards, hash_builder: _, rules: _, listener } = self;
         let shards = unsafe { ::std::mem::ManuallyDrop::take(shards) };
         shards.finish(listener);
     }
@@ -90,15 +85,9 @@ where
         piece: Piece<K, V, P>,
     ) -> RawEnded<K, V, P> {
         let own = self.hash_builder.hash_one(piece.key());
-        let weight = if own == key.hash() && *key.key() == *piece.key() {
-            self.weight_of(own, &piece)
-        } else {
-            0
-        };
+        let weight = if own == key.hash() && *key.key() == *piece.key() { self.weight_of(own, &piece) } else { 0 };
         let shards = &self.shards;
         let is_home = shards.index_of(own) == shards.index_of(key.hash());
-        shards
-            .lock(key.hash())
-            .complete_piece(shards.alloc, now, key, fetch, piece, own, is_home, weight)
+        shards.lock(key.hash()).complete_piece(shards.alloc, now, key, fetch, piece, own, is_home, weight)
     }
 }

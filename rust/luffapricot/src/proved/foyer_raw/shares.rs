@@ -142,11 +142,7 @@ where
     // Answers those who waited for a fetch that has ended, and then tells what left.
     #[inline]
     pub(crate) fn ended(&self, ended: RawEnded<K, V, P>) {
-        let Ended {
-            found: _,
-            answers,
-            leaves,
-        } = ended;
+        let Ended { found: _, answers, leaves } = ended;
         self.answer(answers);
         self.tell_all(leaves);
     }

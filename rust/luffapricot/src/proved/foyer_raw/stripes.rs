@@ -69,18 +69,11 @@ where
 {
     /// Makes a stripe for each shard. Fails with F7 alone.
     #[inline]
-    pub(crate) fn new(
-        alloc: Global,
-        shared: Shared<H, E, K, V, S, P, W, A, L, R, I>,
-        count: usize,
-    ) -> Result<Self> {
+    pub(crate) fn new(alloc: Global, shared: Shared<H, E, K, V, S, P, W, A, L, R, I>, count: usize) -> Result<Self> {
         let shared = Arc::new(alloc, shared)?;
         let mut all = Vec::new(alloc);
         for _shard in 0..count {
-            let stripe = Stripe {
-                shared: Arc::try_clone(&shared)?,
-                apart: [0; 8],
-            };
+            let stripe = Stripe { shared: Arc::try_clone(&shared)?, apart: [0; 8] };
             all.push(Arc::new(alloc, stripe)?)?;
         }
         Ok(Stripes { all })

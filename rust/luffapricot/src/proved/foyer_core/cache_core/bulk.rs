@@ -36,10 +36,7 @@ impl<
     /// # Errors
     /// F7 if memory runs out; the evictions made so far stand and are returned.
     #[inline]
-    pub fn evict_all(
-        &mut self,
-        now: u64,
-    ) -> crate::rattle_std::result::Result<Vec<Leave<K, V, P>>, Refused<K, V, P>> {
+    pub fn evict_all(&mut self, now: u64) -> crate::rattle_std::result::Result<Vec<Leave<K, V, P>>, Refused<K, V, P>> {
         let mut leaves = Vec::new(self.alloc);
         let done = evict_each(&mut self.shards, now, &mut leaves);
         self.load = Load::of_all(&self.shards);
@@ -67,10 +64,7 @@ impl<
         self.load = Load::of_all(&self.shards);
         match done {
             Ok(()) => Ok(evicted),
-            Err(error) => Err(Refused {
-                error,
-                leaves: evicted,
-            }),
+            Err(error) => Err(Refused { error, leaves: evicted }),
         }
     }
 

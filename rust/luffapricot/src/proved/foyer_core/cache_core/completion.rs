@@ -48,9 +48,7 @@ impl<
             return Ended::lost(self.alloc);
         }
         match target {
-            FetchTarget::Entry { value, properties } => {
-                self.complete_value(now, key, fetch, value, properties, source)
-            }
+            FetchTarget::Entry { value, properties } => self.complete_value(now, key, fetch, value, properties, source),
             FetchTarget::Piece(piece) => self.complete_piece(now, key, fetch, piece),
         }
     }
@@ -71,13 +69,7 @@ impl<
         let Ok(own) = key.try_clone() else {
             return self.refuse_value(hash, key, fetch, &properties, weight);
         };
-        let kept = Data {
-            key: own,
-            value,
-            properties,
-            hash,
-            weight,
-        };
+        let kept = Data { key: own, value, properties, hash, weight };
         let place = self.shard_index(hash);
         let before = Load::of(&self.shards[place]);
         let ended = self.shards[place].complete(self.alloc, now, fetch, kept, source);
@@ -88,14 +80,7 @@ impl<
 
     // Ends an open fetch with a value whose key couldn't be cloned.
     #[inline]
-    fn refuse_value(
-        &mut self,
-        hash: u64,
-        key: &K,
-        fetch: u64,
-        properties: &P,
-        weight: usize,
-    ) -> Ended<K, V, P, N> {
+    fn refuse_value(&mut self, hash: u64, key: &K, fetch: u64, properties: &P, weight: usize) -> Ended<K, V, P, N> {
         let place = self.shard_index(hash);
         self.shards[place].refuse_value(self.alloc, hash, key, fetch, properties, weight)
     }
@@ -109,8 +94,7 @@ impl<
         let place = self.shard_index(hash);
         let is_home = self.shard_index(own) == place;
         let before = Load::of(&self.shards[place]);
-        let ended =
-            self.shards[place].complete_piece(self.alloc, now, hash, key, fetch, piece, own, is_home, weight);
+        let ended = self.shards[place].complete_piece(self.alloc, now, hash, key, fetch, piece, own, is_home, weight);
         let after = Load::of(&self.shards[place]);
         self.load.replace(before, after);
         ended

@@ -34,13 +34,7 @@ impl<
     /// # Errors
     /// On a hit, those of `get`. On a miss, F10 if no number is left and F7 if memory runs out. Nothing has changed.
     #[inline]
-    pub fn get_or_enqueue(
-        &mut self,
-        now: u64,
-        key: &K,
-        required: Option<R>,
-        waiter: N,
-    ) -> Result<Lookup<K, V, P, R>> {
+    pub fn get_or_enqueue(&mut self, now: u64, key: &K, required: Option<R>, waiter: N) -> Result<Lookup<K, V, P, R>> {
         let hash = self.hash(key);
         let place = self.shard_index(hash);
         self.shards[place].get_or_enqueue(now, hash, key, required, waiter)

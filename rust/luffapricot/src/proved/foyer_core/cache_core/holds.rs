@@ -56,10 +56,7 @@ impl<
     /// With its last handle a resident record is released, a phantom one leaves, and any other is forgotten. A name
     /// whose record has no handle in its shard is `Foreign`, and nothing has changed. Takes no memory.
     #[inline(always)]
-    pub fn unhold(
-        &mut self,
-        hold: Hold,
-    ) -> crate::rattle_std::result::Result<Option<Leave<K, V, P>>, Foreign> {
+    pub fn unhold(&mut self, hold: Hold) -> crate::rattle_std::result::Result<Option<Leave<K, V, P>>, Foreign> {
         let place = self.shard_index(hold.hash);
         self.shards[place].unhold(hold)
     }

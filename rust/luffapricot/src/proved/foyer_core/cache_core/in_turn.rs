@@ -107,16 +107,7 @@ fn reserve_each<E: Eviction, K: Key, V: Value, P: Properties, N, R, I: Finder<K>
 // Evicts the records for which the predicate returns true, and returns them. Calls it once for each, and makes room
 // for all shards first; F7 if memory runs out, and nothing has changed.
 #[inline]
-pub(crate) fn evict_each_if<
-    E: Eviction,
-    K: Key,
-    V: Value,
-    P: Properties,
-    N,
-    R,
-    I: Finder<K>,
-    F: Fn(&K, &V) -> bool,
->(
+pub(crate) fn evict_each_if<E: Eviction, K: Key, V: Value, P: Properties, N, R, I: Finder<K>, F: Fn(&K, &V) -> bool>(
     shards: &mut Vec<Shard<E, K, V, P, N, R, I>>,
     alloc: Global,
     predicate: &F,

@@ -22,10 +22,7 @@ impl Load {
     pub(crate) fn of<E: Eviction, K: Key, V: Value, P: Properties, N, R, I: Finder<K>>(
         shard: &Shard<E, K, V, P, N, R, I>,
     ) -> Self {
-        Load {
-            usage: shard.usage() as u128,
-            entries: shard.entries() as u128,
-        }
+        Load { usage: shard.usage() as u128, entries: shard.entries() as u128 }
     }
 
     // The load of these shards together.

@@ -48,11 +48,7 @@ impl<
         match self.insert_piece_onto(now, piece, &mut leaves) {
             Ok(made) => {
                 let InsertedOnto { entry, answers } = made;
-                Ok(Inserted {
-                    entry,
-                    answers,
-                    leaves,
-                })
+                Ok(Inserted { entry, answers, leaves })
             }
             Err(error) => Err(Refused { error, leaves }),
         }

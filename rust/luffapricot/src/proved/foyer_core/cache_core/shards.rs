@@ -22,11 +22,7 @@ pub fn shard_capacity(capacity: usize, shards: usize, number: usize) -> usize {
 // A hash modulo the number of shards: a mask if that is a power of two, which spares a division.
 #[inline(always)]
 fn part_of(hash: u64, shards: u64) -> u64 {
-    if shards.is_power_of_two() {
-        hash & (shards - 1)
-    } else {
-        hash % shards
-    }
+    if shards.is_power_of_two() { hash & (shards - 1) } else { hash % shards }
 }
 
 /// Returns the number of the shard of a hash: the hash modulo the number of shards.

@@ -24,9 +24,7 @@ impl<I> From<I> for Indexed<I> {
 impl<K: Key, I: Indexer<K>> Finder<K> for Indexed<I> {
     #[inline]
     fn empty(alloc: Global) -> Self {
-        Indexed {
-            index: I::empty(alloc),
-        }
+        Indexed { index: I::empty(alloc) }
     }
 
     #[inline]

@@ -19,10 +19,7 @@ impl<K: Key> KeyTags<K> {
     /// Creates tags with no keys.
     #[inline]
     pub(crate) fn new(alloc: Global) -> Self {
-        KeyTags {
-            tags: Tags::new(alloc),
-            trail: Trail::new(),
-        }
+        KeyTags { tags: Tags::new(alloc), trail: Trail::new() }
     }
 
     /// Returns the slot of a key. `is_its` says of a slot whether this key leads to it.

@@ -53,10 +53,7 @@ impl<K: Key, I: Indexer<K>> TagFinder<K, I> {
 impl<K: Key, I: Indexer<K>> Finder<K> for TagFinder<K, I> {
     #[inline]
     fn empty(alloc: Global) -> Self {
-        TagFinder {
-            near: KeyTags::new(alloc),
-            far: I::empty(alloc),
-        }
+        TagFinder { near: KeyTags::new(alloc), far: I::empty(alloc) }
     }
 
     #[inline(always)]
@@ -70,11 +67,7 @@ impl<K: Key, I: Indexer<K>> Finder<K> for TagFinder<K, I> {
 
     #[inline(always)]
     fn put(&mut self, hash: u64, key: &K, was: Option<usize>, slot: usize) -> Result<()> {
-        if slot < FAR {
-            self.put_near(hash, key, was, slot)
-        } else {
-            self.put_far(hash, key, was, slot)
-        }
+        if slot < FAR { self.put_near(hash, key, was, slot) } else { self.put_far(hash, key, was, slot) }
     }
 
     #[inline(always)]

@@ -12,12 +12,7 @@ enum Marks<K> {
     /// Nothing.
     Start,
     /// Marks that a key leads to a slot from here on, or to none.
-    Mark {
-        before: Past<Marks<K>>,
-        hash: u64,
-        key: Snapshot<K>,
-        slot: Option<usize>,
-    },
+    Mark { before: Past<Marks<K>>, hash: u64, key: Snapshot<K>, slot: Option<usize> },
 }
 
 /// Which slot each hashed key leads to, by the marks made. Takes no memory, and no code runs for it.
@@ -29,9 +24,7 @@ impl<K> Trail<K> {
     /// Creates a trail in which no key leads to a slot.
     #[inline(always)]
     pub(crate) fn new() -> Self {
-        Trail {
-            marks: Past::of(&Marks::Start),
-        }
+        Trail { marks: Past::of(&Marks::Start) }
     }
 
     /// Marks that a key leads to a slot from here on, or to none.
@@ -39,11 +32,6 @@ impl<K> Trail<K> {
     pub(crate) fn mark(&mut self, hash: u64, key: Snapshot<K>, slot: Option<usize>) {
         let start = Past::of(&Marks::Start);
         let before = mem::replace(&mut self.marks, start);
-        self.marks = Past::of(&Marks::Mark {
-            before,
-            hash,
-            key,
-            slot,
-        });
+        self.marks = Past::of(&Marks::Mark { before, hash, key, slot });
     }
 }

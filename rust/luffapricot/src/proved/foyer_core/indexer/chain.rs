@@ -38,13 +38,7 @@ fn head_of(heads: &[Link], shift: u32, hash: u64) -> Link {
 
 // The place of the pair of a key.
 #[inline]
-pub(crate) fn find<K: Eq>(
-    heads: &[Link],
-    shift: u32,
-    pairs: &[Pair<K>],
-    hash: u64,
-    key: &K,
-) -> Option<usize> {
+pub(crate) fn find<K: Eq>(heads: &[Link], shift: u32, pairs: &[Pair<K>], hash: u64, key: &K) -> Option<usize> {
     let mut link = head_of(heads, shift, hash);
     while let Some(place) = link.place() {
         let pair = &pairs[place];

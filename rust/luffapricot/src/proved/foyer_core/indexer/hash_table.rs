@@ -27,12 +27,7 @@ impl<K: Key> HashTableIndexer<K> {
     /// Creates an index with no keys.
     #[inline]
     pub fn new(alloc: Global) -> Self {
-        HashTableIndexer {
-            heads: Vec::new(alloc),
-            pairs: Vec::new(alloc),
-            shift: FIRST_SHIFT,
-            alloc,
-        }
+        HashTableIndexer { heads: Vec::new(alloc), pairs: Vec::new(alloc), shift: FIRST_SHIFT, alloc }
     }
 
     /// Returns whether there is no key. Takes no memory.
@@ -69,12 +64,7 @@ impl<K: Key> Indexer<K> for HashTableIndexer<K> {
         if self.make_room().is_err() {
             return Err(Error::new(Reason::NoMemory));
         }
-        let pair = Pair {
-            hash,
-            key,
-            number: id,
-            next: Link::end(),
-        };
+        let pair = Pair { hash, key, number: id, next: Link::end() };
         push(&mut self.heads, self.shift, &mut self.pairs, pair);
         Ok(None)
     }

@@ -19,9 +19,7 @@ impl<K: Key> Sentry<HashTableIndexer<K>> {
     /// Creates an index with no keys.
     #[inline]
     pub fn new(alloc: Global) -> Self {
-        Sentry {
-            indexer: HashTableIndexer::new(alloc),
-        }
+        Sentry { indexer: HashTableIndexer::new(alloc) }
     }
 }
 
@@ -36,9 +34,7 @@ impl<I> From<I> for Sentry<I> {
 impl<K: Key, I: Indexer<K>> Indexer<K> for Sentry<I> {
     #[inline]
     fn empty(alloc: Global) -> Self {
-        Sentry {
-            indexer: I::empty(alloc),
-        }
+        Sentry { indexer: I::empty(alloc) }
     }
 
     #[inline]

@@ -18,9 +18,6 @@ impl<K: Key, N, R> InflightManager<K, N, R> {
         others: Vec<CoreEntry<K, V, P>>,
     ) -> Answers<K, V, P, N> {
         let waiters = self.close(entry.hash(), entry.key());
-        Answers {
-            waiters,
-            outcome: Outcome::Entries(others),
-        }
+        Answers { waiters, outcome: Outcome::Entries(others) }
     }
 }

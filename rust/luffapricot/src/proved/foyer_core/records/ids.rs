@@ -59,13 +59,7 @@ impl Ids {
     /// Creates a table in which no id has a slot.
     #[inline]
     pub(crate) fn new(alloc: Global) -> Self {
-        Ids {
-            near: Vec::new(alloc),
-            bits: FIRST_BITS,
-            end: 0,
-            far: HashMap::new(alloc),
-            alloc,
-        }
+        Ids { near: Vec::new(alloc), bits: FIRST_BITS, end: 0, far: HashMap::new(alloc), alloc }
     }
 
     /// Makes room for one more id beside those of so many records. If memory runs out, nothing has changed.

@@ -38,14 +38,7 @@ impl<E: Eviction, K: Key, V: Value, P: Properties, N, R, I: Finder<K>> Shard<E, 
 
     // Enters a caller that asks for a missing key.
     #[inline]
-    fn enqueue(
-        &mut self,
-        now: u64,
-        hash: u64,
-        key: &K,
-        required: Option<R>,
-        waiter: N,
-    ) -> Result<Lookup<K, V, P, R>> {
+    fn enqueue(&mut self, now: u64, hash: u64, key: &K, required: Option<R>, waiter: N) -> Result<Lookup<K, V, P, R>> {
         let ids = self.store.ids();
         if self.inflights.lacks(hash, key, ids) {
             return Err(Error::new(Reason::Ids));
@@ -54,15 +47,9 @@ impl<E: Eviction, K: Key, V: Value, P: Properties, N, R, I: Finder<K>> Shard<E, 
             return Err(Error::new(Reason::NoMemory));
         };
         match self.inflights.enqueue(now, hash, own, required, waiter, ids) {
-            Ok(Enqueue::Lead {
-                id,
-                token,
-                required_fetch_builder,
-            }) => Ok(Lookup::Lead {
-                fetch: id,
-                token,
-                required: required_fetch_builder,
-            }),
+            Ok(Enqueue::Lead { id, token, required_fetch_builder }) => {
+                Ok(Lookup::Lead { fetch: id, token, required: required_fetch_builder })
+            }
             Ok(Enqueue::Wait { token }) => Ok(Lookup::Wait { token }),
             Err(error) => Err(error),
         }
@@ -113,14 +100,9 @@ impl<E: Eviction, K: Key, V: Value, P: Properties, N, R, I: Finder<K>> Shard<E, 
         let Some(waiters) = self.inflights.take(kept.hash, &kept.key, Some(fetch)) else {
             return Ended::lost(alloc);
         };
-        let further = Further {
-            count: waiters.len() - 1,
-            room: 1,
-        };
+        let further = Further { count: waiters.len() - 1, room: 1 };
         let mut leaves = Vec::new(alloc);
-        let came = self
-            .store
-            .emplace_data(alloc, now, kept, source, further, &mut leaves);
+        let came = self.store.emplace_data(alloc, now, kept, source, further, &mut leaves);
         Ended::found(waiters, came, leaves)
     }
 
@@ -150,13 +132,8 @@ impl<E: Eviction, K: Key, V: Value, P: Properties, N, R, I: Finder<K>> Shard<E, 
             let wrong = Error::new(Reason::WrongKey);
             return Ended::found(waiters, Err(wrong), leaves);
         }
-        let further = Further {
-            count: waiters.len() - 1,
-            room: 1,
-        };
-        let came = self
-            .store
-            .emplace_piece(alloc, now, piece, own, weight, further, &mut leaves);
+        let further = Further { count: waiters.len() - 1, room: 1 };
+        let came = self.store.emplace_piece(alloc, now, piece, own, weight, further, &mut leaves);
         Ended::found(waiters, came, leaves)
     }
 

@@ -35,10 +35,7 @@ impl<E: Eviction, K: Key, V: Value, P: Properties, N, R, I: Finder<K>> Shard<E, 
     /// Takes a handle back by its name, and returns what left with it, as `take_back` does. If the id has no handle
     /// here, it is `Foreign`, and nothing has changed. Takes no memory.
     #[inline(always)]
-    pub fn unhold(
-        &mut self,
-        hold: Hold,
-    ) -> crate::rattle_std::result::Result<Option<Leave<K, V, P>>, Foreign> {
+    pub fn unhold(&mut self, hold: Hold) -> crate::rattle_std::result::Result<Option<Leave<K, V, P>>, Foreign> {
         self.store.unhold(hold)
     }
 

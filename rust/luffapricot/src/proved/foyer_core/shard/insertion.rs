@@ -46,8 +46,7 @@ impl<E: Eviction, K: Key, V: Value, P: Properties, N, R, I: Finder<K>> Shard<E, 
     #[cold]
     pub(crate) fn out_of_memory(&self, hash: u64, key: &K, properties: &P, weight: usize) -> Error {
         let further = self.further(hash, key);
-        self.store
-            .out_of_memory(hash, key, properties, weight, further.count)
+        self.store.out_of_memory(hash, key, properties, weight, further.count)
     }
 
     /// Inserts a record with this share of its data, as `emplace` does.
@@ -71,10 +70,7 @@ impl<E: Eviction, K: Key, V: Value, P: Properties, N, R, I: Finder<K>> Shard<E, 
             return Err(self.out_of_memory(kept.hash(), key, properties, kept.weight()));
         };
         match self.place(now, kept, &mut entry, leaves) {
-            Ok(()) => Ok(InsertedOnto {
-                entry,
-                answers: Answers::nobody(alloc),
-            }),
+            Ok(()) => Ok(InsertedOnto { entry, answers: Answers::nobody(alloc) }),
             Err(error) => {
                 entry.discard();
                 Err(error)
@@ -154,10 +150,7 @@ impl<E: Eviction, K: Key, V: Value, P: Properties, N, R, I: Finder<K>> Shard<E, 
         leaves: &mut Vec<Leave<K, V, P>>,
     ) -> Result<InsertedOnto<K, V, P, N>> {
         let further = self.further_of(hash, &piece);
-        match self
-            .store
-            .emplace_piece(alloc, now, piece, hash, weight, further, leaves)
-        {
+        match self.store.emplace_piece(alloc, now, piece, hash, weight, further, leaves) {
             Ok(made) => {
                 let Handles { entry, others } = made;
                 let answers = self.inflights.answers(&entry, others);
@@ -170,11 +163,7 @@ impl<E: Eviction, K: Key, V: Value, P: Properties, N, R, I: Finder<K>> Shard<E, 
     // An entry for each waiter of a key.
     #[inline(always)]
     pub(crate) fn further(&self, hash: u64, key: &K) -> Further {
-        let count = if self.inflights.is_empty() {
-            0
-        } else {
-            self.inflights.waiters(hash, key)
-        };
+        let count = if self.inflights.is_empty() { 0 } else { self.inflights.waiters(hash, key) };
         Further { count, room: 0 }
     }
 

@@ -16,13 +16,7 @@ impl<E: Eviction, K: Key, V: Value, P: Properties, N, R, I: Finder<K>> Shard<E, 
     /// # Errors
     /// F9 if the handle count would pass its limit; nothing has changed.
     #[inline(always)]
-    pub fn read<T, F: FnOnce(&V) -> T>(
-        &mut self,
-        now: u64,
-        hash: u64,
-        key: &K,
-        look: F,
-    ) -> Result<Option<T>> {
+    pub fn read<T, F: FnOnce(&V) -> T>(&mut self, now: u64, hash: u64, key: &K, look: F) -> Result<Option<T>> {
         self.store.read(now, hash, key, look)
     }
 

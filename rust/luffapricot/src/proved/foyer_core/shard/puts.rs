@@ -63,10 +63,7 @@ impl<E: Eviction, K: Key, V: Value, P: Properties, N, R, I: Finder<K>> Shard<E, 
             return self.put_answering(alloc, now, kept, leaves);
         }
         match self.put(now, kept, leaves) {
-            Ok(last) => Ok(PutOnto {
-                last,
-                answers: Answers::nobody(alloc),
-            }),
+            Ok(last) => Ok(PutOnto { last, answers: Answers::nobody(alloc) }),
             Err(error) => Err(error),
         }
     }

@@ -20,7 +20,6 @@ impl<E: Eviction, K: Key, V: Value, P: Properties, N, R, I: Finder<K>> Shard<E, 
     #[inline]
     pub fn refuses_insert(&self, hash: u64, key: &K, properties: &P, weight: usize) -> Option<Reason> {
         let further = self.further(hash, key);
-        self.store
-            .new_refusal(hash, key, properties, weight, further.count)
+        self.store.new_refusal(hash, key, properties, weight, further.count)
     }
 }

@@ -31,13 +31,7 @@ impl<E: Eviction, K: Key, V: Value, P: Properties, I: Finder<K>> Store<E, K, V, 
         let (gone, replaced) = give_way(&mut self.eviction, &mut self.records, self.number, was);
         self.usage -= gone;
         self.entries -= replaced.is_some() as u64;
-        let item = Item {
-            id,
-            hash,
-            weight,
-            hint,
-            expires,
-        };
+        let item = Item { id, hash, weight, hint, expires };
         self.eviction.push_at(Place::at(number), item);
         self.usage += weight;
         self.entries += 1;

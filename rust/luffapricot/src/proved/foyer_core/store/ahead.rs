@@ -60,8 +60,7 @@ impl<E: Eviction, K: Key, V: Value, P: Properties, I: Finder<K>> Store<E, K, V, 
         let item = self.eviction.item(place);
         match self.records.get(place.number()) {
             Some(found) => {
-                found.weight() == item.weight
-                    && found.properties().hint().unwrap_or(Hint::Normal) == item.hint
+                found.weight() == item.weight && found.properties().hint().unwrap_or(Hint::Normal) == item.hint
             }
             None => false,
         }

@@ -31,10 +31,7 @@ impl<E: Eviction, K: Key, V: Value, P: Properties, I: Finder<K>> Store<E, K, V, 
 
     /// Takes a handle back by its name, as `Shard::unhold` does.
     #[inline(always)]
-    pub fn unhold(
-        &mut self,
-        hold: Hold,
-    ) -> crate::rattle_std::result::Result<Option<Leave<K, V, P>>, Foreign> {
+    pub fn unhold(&mut self, hold: Hold) -> crate::rattle_std::result::Result<Option<Leave<K, V, P>>, Foreign> {
         self.take_back_at(hold.id, hold.slot)
     }
 

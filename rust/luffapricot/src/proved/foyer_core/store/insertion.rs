@@ -46,9 +46,7 @@ impl<E: Eviction, K: Key, V: Value, P: Properties, I: Finder<K>> Store<E, K, V, 
     ) -> Result<Handles<K, V, P>> {
         match Share::new(alloc, kept) {
             Ok(kept) => self.emplace(alloc, now, kept, source, further, leaves),
-            Err(kept) => {
-                Err(self.out_of_memory(kept.hash, &kept.key, &kept.properties, kept.weight, further.count))
-            }
+            Err(kept) => Err(self.out_of_memory(kept.hash, &kept.key, &kept.properties, kept.weight, further.count)),
         }
     }
 
@@ -127,12 +125,7 @@ impl<E: Eviction, K: Key, V: Value, P: Properties, I: Finder<K>> Store<E, K, V, 
     // Inserts as `emplace_slot` does, with no entry, and returns the record's slot, or nothing if memory runs out. An entry with any
     // source would be of it.
     #[inline(always)]
-    fn insert_slot(
-        &mut self,
-        now: u64,
-        slot: Slot<K, V, P>,
-        leaves: &mut Vec<Leave<K, V, P>>,
-    ) -> Option<usize> {
+    fn insert_slot(&mut self, now: u64, slot: Slot<K, V, P>, leaves: &mut Vec<Leave<K, V, P>>) -> Option<usize> {
         if slot.properties().phantom().unwrap_or(false) {
             return self.insert_phantom(slot, leaves);
         }
@@ -144,12 +137,7 @@ impl<E: Eviction, K: Key, V: Value, P: Properties, I: Finder<K>> Store<E, K, V, 
     // Never inlined, at a place where little is handed over: inlined with all around it, the caller would be too
     // large.
     #[inline(never)]
-    fn insert_plain(
-        &mut self,
-        now: u64,
-        mut slot: Slot<K, V, P>,
-        leaves: &mut Vec<Leave<K, V, P>>,
-    ) -> Option<usize> {
+    fn insert_plain(&mut self, now: u64, mut slot: Slot<K, V, P>, leaves: &mut Vec<Leave<K, V, P>>) -> Option<usize> {
         let target = self.capacity.saturating_sub(slot.weight());
         let Ok(()) = self.prepare(&mut slot, leaves) else {
             return None;

@@ -13,13 +13,7 @@ impl<E: Eviction, K: Key, V: Value, P: Properties, I: Finder<K>> Store<E, K, V, 
     /// Counts a use of the record that the key hits at `now`, and returns what `look` makes of its value, as `Shard::read`
     /// does.
     #[inline(always)]
-    pub fn read<T, F: FnOnce(&V) -> T>(
-        &mut self,
-        now: u64,
-        hash: u64,
-        key: &K,
-        look: F,
-    ) -> Result<Option<T>> {
+    pub fn read<T, F: FnOnce(&V) -> T>(&mut self, now: u64, hash: u64, key: &K, look: F) -> Result<Option<T>> {
         let Some((slot, found)) = self.live_under(now, hash, key) else {
             return Ok(None);
         };

@@ -15,11 +15,7 @@ impl<E: Eviction, K: Key, V: Value, P: Properties, I: Finder<K>> Store<E, K, V, 
     // It has a new id, or comes back under its own.
     #[cold]
     #[inline(never)]
-    pub(crate) fn insert_phantom(
-        &mut self,
-        slot: Slot<K, V, P>,
-        leaves: &mut Vec<Leave<K, V, P>>,
-    ) -> Option<usize> {
+    pub(crate) fn insert_phantom(&mut self, slot: Slot<K, V, P>, leaves: &mut Vec<Leave<K, V, P>>) -> Option<usize> {
         let Ok(gone) = self.prepare_phantom(&slot, leaves) else {
             return None;
         };
@@ -32,11 +28,7 @@ impl<E: Eviction, K: Key, V: Value, P: Properties, I: Finder<K>> Store<E, K, V, 
 
     // Makes room for one record that isn't indexed and for two that leave, and returns what it is reported with.
     #[inline]
-    fn prepare_phantom(
-        &mut self,
-        slot: &Slot<K, V, P>,
-        leaves: &mut Vec<Leave<K, V, P>>,
-    ) -> Result<Left<K, V, P>> {
+    fn prepare_phantom(&mut self, slot: &Slot<K, V, P>, leaves: &mut Vec<Leave<K, V, P>>) -> Result<Left<K, V, P>> {
         leaves.reserve(2)?;
         self.records.reserve()?;
         slot.left(self.number)

@@ -36,14 +36,7 @@ impl<E: Eviction, K: Key, V: Value, P: Properties, I: Finder<K>> Store<E, K, V, 
     // The error of an insert of a new record with these parts for which memory runs out: F10, F9 or F8 if it has one of
     // these, else F7.
     #[cold]
-    pub(crate) fn out_of_memory(
-        &self,
-        hash: u64,
-        key: &K,
-        properties: &P,
-        weight: usize,
-        further: usize,
-    ) -> Error {
+    pub(crate) fn out_of_memory(&self, hash: u64, key: &K, properties: &P, weight: usize, further: usize) -> Error {
         let refusal = self.new_refusal(hash, key, properties, weight, further);
         Error::new(refusal.unwrap_or(Reason::NoMemory))
     }
@@ -61,15 +54,7 @@ impl<E: Eviction, K: Key, V: Value, P: Properties, I: Finder<K>> Store<E, K, V, 
 
     // Why a plain record can't be inserted, whatever memory there is.
     #[inline(always)]
-    fn refusal(
-        &self,
-        id: u64,
-        held: usize,
-        further: usize,
-        hash: u64,
-        key: &K,
-        weight: usize,
-    ) -> Option<Reason> {
+    fn refusal(&self, id: u64, held: usize, further: usize, hash: u64, key: &K, weight: usize) -> Option<Reason> {
         if let Some(reason) = self.hold_refusal(id, held, further) {
             return Some(reason);
         }

@@ -20,19 +20,13 @@ impl Tag {
     /// Creates the tag of a slot below 2^32 - 1.
     #[inline(always)]
     pub(crate) fn new(fingerprint: u32, slot: usize) -> Self {
-        Tag {
-            fingerprint,
-            slot: slot as u32,
-        }
+        Tag { fingerprint, slot: slot as u32 }
     }
 
     // What an empty bucket has.
     #[inline(always)]
     fn empty() -> Self {
-        Tag {
-            fingerprint: 0,
-            slot: u32::MAX,
-        }
+        Tag { fingerprint: 0, slot: u32::MAX }
     }
 }
 
@@ -64,9 +58,7 @@ impl Buckets {
     /// Creates no buckets.
     #[inline]
     pub(crate) fn new(alloc: Global) -> Self {
-        Buckets {
-            tags: Vec::new(alloc),
-        }
+        Buckets { tags: Vec::new(alloc) }
     }
 
     /// Returns the number of buckets.

@@ -40,19 +40,11 @@ where
         I: Finder<K>,
         G: Log,
     {
-        let CacheBuilder {
-            config,
-            listener,
-            time_to_live,
-            keys: _,
-        } = self;
+        let CacheBuilder { config, listener, time_to_live, keys: _ } = self;
         warn_of(log, config.capacity, config.shards);
         let kind = Kind::of(&config.eviction_config);
         match RawCache::new(rt, alloc, config, listener) {
-            Ok(cache) => Ok(Cache {
-                cache: cache.with_time_to_live(time_to_live),
-                kind,
-            }),
+            Ok(cache) => Ok(Cache { cache: cache.with_time_to_live(time_to_live), kind }),
             Err(error) => Err(error),
         }
     }

@@ -62,10 +62,7 @@ where
     where
         F: FnOnce() -> crate::rattle_std::result::Result<(V, P), Fault>,
     {
-        let (entry, kind) = (
-            self.cache.get_or_insert_with_properties(now, key, make)?,
-            self.kind,
-        );
+        let (entry, kind) = (self.cache.get_or_insert_with_properties(now, key, make)?, self.kind);
         Ok(CacheEntry { entry, kind })
     }
 }

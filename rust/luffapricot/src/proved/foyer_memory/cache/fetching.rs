@@ -51,9 +51,7 @@ where
         X: Spawner<FetchTask<H, K, V, S, P, W, A, L, Q, T, I>>,
     {
         let kind = self.kind;
-        let look = self
-            .cache
-            .get_or_fetch_inner(now, key, fo, fr, context, spawner)?;
+        let look = self.cache.get_or_fetch_inner(now, key, fo, fr, context, spawner)?;
         Ok(GetOrFetch { look, kind })
     }
 }

@@ -82,11 +82,7 @@ where
     /// # Errors
     /// Those of `insert_with_properties`.
     #[inline]
-    pub fn insert_piece(
-        &self,
-        now: u64,
-        piece: Piece<K, V, P>,
-    ) -> Result<CacheEntry<H, K, V, S, P, W, A, L, Q, T, I>> {
+    pub fn insert_piece(&self, now: u64, piece: Piece<K, V, P>) -> Result<CacheEntry<H, K, V, S, P, W, A, L, Q, T, I>> {
         let (entry, kind) = (self.cache.insert_piece(now, piece)?, self.kind);
         Ok(CacheEntry { entry, kind })
     }

@@ -45,11 +45,7 @@ pub(crate) fn follow_push<T: HasItem, const N: usize>(
 #[inline(always)]
 fn going<T: HasItem, const N: usize>(lists: &Lists<T, N>, place: Place, date: u64) -> (usize, Gone) {
     let list = lists.list_of(place);
-    let gone = Gone {
-        date,
-        slot: lists.get(place).slot(),
-        was_first: lists.front(list) == Some(place),
-    };
+    let gone = Gone { date, slot: lists.get(place).slot(), was_first: lists.front(list) == Some(place) };
     (list, gone)
 }
 
@@ -65,11 +61,7 @@ fn remove_date<T: HasItem, const N: usize>(dates: &mut Tracking, lists: &Lists<T
 
 /// Follows a value that is removed.
 #[inline(always)]
-pub(crate) fn follow_remove<T: HasItem, const N: usize>(
-    dates: &mut Tracking,
-    lists: &Lists<T, N>,
-    place: Place,
-) {
+pub(crate) fn follow_remove<T: HasItem, const N: usize>(dates: &mut Tracking, lists: &Lists<T, N>, place: Place) {
     match dates {
         Tracking::Plain => {}
         _ => remove_date(dates, lists, place),
@@ -99,12 +91,7 @@ pub(crate) fn follow_pop<T: HasItem, const N: usize>(dates: &mut Tracking, lists
 // Moves the date of the item at a place to the end of a list, if it has one.
 #[cold]
 #[inline(never)]
-fn move_date<T: HasItem, const N: usize>(
-    dates: &mut Tracking,
-    lists: &mut Lists<T, N>,
-    place: Place,
-    list: usize,
-) {
+fn move_date<T: HasItem, const N: usize>(dates: &mut Tracking, lists: &mut Lists<T, N>, place: Place, list: usize) {
     if let Some(date) = lists.get(place).item().expires {
         let (from, gone) = going(lists, place, date);
         dates.remove(from, place, gone);
@@ -133,12 +120,7 @@ pub(crate) fn follow_move<T: HasItem, const N: usize>(
 // aren't known.
 #[cold]
 #[inline(never)]
-fn make_room<T: HasItem, const N: usize>(
-    dates: &mut Tracking,
-    lists: &mut Lists<T, N>,
-    searched: u8,
-    alloc: Global,
-) {
+fn make_room<T: HasItem, const N: usize>(dates: &mut Tracking, lists: &mut Lists<T, N>, searched: u8, alloc: Global) {
     match dates {
         Tracking::Plain => {}
         Tracking::Untracked => {

@@ -35,15 +35,7 @@ impl<T, const N: usize> Arena<T, N> {
     #[inline]
     pub(crate) fn new(alloc: Global) -> Self {
         match allocate(&alloc, 0) {
-            Ok((base, nodes, deed)) => Arena {
-                base,
-                len: 0,
-                used: 0,
-                free: Link::end(),
-                nodes,
-                deed,
-                alloc,
-            },
+            Ok((base, nodes, deed)) => Arena { base, len: 0, used: 0, free: Link::end(), nodes, deed, alloc },
             Err(_) => crate::rattle_std::macros::unreachable!(),
         }
     }
@@ -51,9 +43,7 @@ impl<T, const N: usize> Arena<T, N> {
     /// Returns the first free node.
     #[inline(always)]
     pub(crate) fn first_free(&self) -> usize {
-        let Some(place) = self.free.place() else {
-            crate::rattle_std::macros::unreachable!()
-        };
+        let Some(place) = self.free.place() else { crate::rattle_std::macros::unreachable!() };
         place
     }
 
@@ -139,15 +129,7 @@ impl<T, const N: usize> Arena<T, N> {
     /// Frees the block, in which no node has a value.
     #[inline]
     pub(crate) fn destroy_empty(self) {
-        let Arena {
-            base,
-            len,
-            used: _,
-            free: _,
-            nodes,
-            deed,
-            alloc,
-        } = self;
+        let Arena { base, len, used: _, free: _, nodes, deed, alloc } = self;
         deallocate(&alloc, base, len, nodes, deed);
     }
 }

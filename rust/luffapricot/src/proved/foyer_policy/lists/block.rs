@@ -58,16 +58,12 @@ pub(crate) fn allocate<L, T, A: Allocator>(
 ) -> Result<(Base<L, T>, Nodes<L, T>, Deed<L, T, A>), AllocError> {
     if len == 0 {
         let none = ();
-        let base = Base {
-            ptr: &raw const none as *mut Node<L, T>,
-        };
+        let base = Base { ptr: &raw const none as *mut Node<L, T> };
         return Ok((base, Nodes { mark: PhantomData }, Deed { mark: PhantomData }));
     }
     match alloc.allocate(len * size_of::<Node<L, T>>(), align_of::<Node<L, T>>()) {
         Ok(block) => {
-            let base = Base {
-                ptr: block as *mut Node<L, T>,
-            };
+            let base = Base { ptr: block as *mut Node<L, T> };
             Ok((base, Nodes { mark: PhantomData }, Deed { mark: PhantomData }))
         }
         Err(error) => Err(error),
@@ -87,11 +83,7 @@ pub(crate) fn deallocate<L, T, A: Allocator>(
     let Deed { mark: _ } = deed;
     if len != 0 {
         unsafe {
-            alloc.deallocate(
-                base.ptr as *mut u8,
-                len * size_of::<Node<L, T>>(),
-                align_of::<Node<L, T>>(),
-            );
+            alloc.deallocate(base.ptr as *mut u8, len * size_of::<Node<L, T>>(), align_of::<Node<L, T>>());
         }
     }
 }

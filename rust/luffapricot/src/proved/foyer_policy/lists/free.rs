@@ -29,29 +29,15 @@ fn set_after<T>(nodes: &mut Nodes<Links, T>, base: Base<Links, T>, at: Link, to:
 
 /// Adds a node without a value in front of the free ones, of which `free` is the first.
 #[inline(always)]
-pub(crate) fn put_free<T, const N: usize>(
-    nodes: &mut Nodes<Links, T>,
-    base: Base<Links, T>,
-    place: usize,
-    free: Link,
-) {
+pub(crate) fn put_free<T, const N: usize>(nodes: &mut Nodes<Links, T>, base: Base<Links, T>, place: usize, free: Link) {
     set_before(nodes, base, free, Link::to(place));
-    let links = Links {
-        list: N,
-        before: Link::end(),
-        after: free,
-    };
+    let links = Links { list: N, before: Link::end(), after: free };
     nodes.set_links(base, place, links);
 }
 
 /// Takes a node from the free ones, of which `free` is the first, and returns the first that is left.
 #[inline(always)]
-pub(crate) fn take_free<T>(
-    nodes: &mut Nodes<Links, T>,
-    base: Base<Links, T>,
-    place: usize,
-    free: Link,
-) -> Link {
+pub(crate) fn take_free<T>(nodes: &mut Nodes<Links, T>, base: Base<Links, T>, place: usize, free: Link) -> Link {
     let links = *nodes.links(base, place);
     set_before(nodes, base, links.after, links.before);
     set_after(nodes, base, links.before, links.after);

@@ -8,13 +8,7 @@ use crate::proved::foyer_policy::lists::arena::{Arena, Links};
 
 // Sets what comes after the node `at`, or the list's head if there is no such node.
 #[inline(always)]
-fn set_after<T, const N: usize>(
-    nodes: &mut Arena<T, N>,
-    heads: &mut [Link],
-    list: usize,
-    at: Link,
-    to: Link,
-) {
+fn set_after<T, const N: usize>(nodes: &mut Arena<T, N>, heads: &mut [Link], list: usize, at: Link, to: Link) {
     match at.place() {
         Some(at) => {
             let mut links = nodes.links(at);
@@ -27,13 +21,7 @@ fn set_after<T, const N: usize>(
 
 // Sets what comes before the node `at`, or the list's tail if there is no such node.
 #[inline(always)]
-fn set_before<T, const N: usize>(
-    nodes: &mut Arena<T, N>,
-    tails: &mut [Link],
-    list: usize,
-    at: Link,
-    to: Link,
-) {
+fn set_before<T, const N: usize>(nodes: &mut Arena<T, N>, tails: &mut [Link], list: usize, at: Link, to: Link) {
     match at.place() {
         Some(at) => {
             let mut links = nodes.links(at);
@@ -55,11 +43,7 @@ pub(crate) fn link_back<T, const N: usize>(
     value: T,
 ) {
     let before = tails[list];
-    let links = Links {
-        list,
-        before,
-        after: Link::end(),
-    };
+    let links = Links { list, before, after: Link::end() };
     nodes.insert_at(node, links, value);
     set_after(nodes, heads, list, before, Link::to(node));
     tails[list] = Link::to(node);
@@ -67,12 +51,7 @@ pub(crate) fn link_back<T, const N: usize>(
 
 // Unlinks a node from its list. It keeps its value, and is in no list.
 #[inline(always)]
-pub(crate) fn unlink<T, const N: usize>(
-    nodes: &mut Arena<T, N>,
-    heads: &mut [Link],
-    tails: &mut [Link],
-    place: usize,
-) {
+pub(crate) fn unlink<T, const N: usize>(nodes: &mut Arena<T, N>, heads: &mut [Link], tails: &mut [Link], place: usize) {
     let links = nodes.links(place);
     set_after(nodes, heads, links.list, links.before, links.after);
     set_before(nodes, tails, links.list, links.after, links.before);
@@ -90,11 +69,7 @@ pub(crate) fn relink<T, const N: usize>(
     let before = tails[list];
     set_after(nodes, heads, list, before, Link::to(place));
     tails[list] = Link::to(place);
-    let links = Links {
-        list,
-        before,
-        after: Link::end(),
-    };
+    let links = Links { list, before, after: Link::end() };
     nodes.set_links(place, links);
 }
 

@@ -44,11 +44,7 @@ pub(crate) struct Victim {
 // Removes the first record below a threshold from the small queue. Those before it, or all if there is none, move to
 // the end of the main queue. `weight` is the small queue's.
 #[inline]
-pub(crate) fn take_small(
-    queues: &mut DatedLists<Node, 2>,
-    weight: &mut usize,
-    threshold: u8,
-) -> Option<Victim> {
+pub(crate) fn take_small(queues: &mut DatedLists<Node, 2>, weight: &mut usize, threshold: u8) -> Option<Victim> {
     while let Some(front) = queues.front(SMALL) {
         let node = queues.get(front);
         let state = node.state();
@@ -56,16 +52,9 @@ pub(crate) fn take_small(
         if state.frequency < threshold {
             let item = node.whole();
             queues.remove(front);
-            return Some(Victim {
-                item,
-                at: front,
-                looks: 0,
-            });
+            return Some(Victim { item, at: front, looks: 0 });
         }
-        let main = S3FifoState {
-            is_main: true,
-            ..state
-        };
+        let main = S3FifoState { is_main: true, ..state };
         queues.set_state(front, main);
         queues.move_back(front, MAIN);
     }
@@ -78,10 +67,7 @@ pub(crate) fn take_small(
 fn lower(queues: &mut DatedLists<Node, 2>, place: Place, looks: &mut u128) -> bool {
     let state = queues.get(place).state();
     *looks += 1;
-    let lowered = S3FifoState {
-        frequency: state.frequency.saturating_sub(1),
-        ..state
-    };
+    let lowered = S3FifoState { frequency: state.frequency.saturating_sub(1), ..state };
     queues.set_state(place, lowered);
     state.frequency > 0
 }
@@ -94,11 +80,7 @@ pub(crate) fn take_main(queues: &mut DatedLists<Node, 2>) -> Option<Victim> {
     while let Some(front) = queues.front(MAIN) {
         if !lower(queues, front, &mut looks) {
             let item = queues.remove(front).whole();
-            return Some(Victim {
-                item,
-                at: front,
-                looks,
-            });
+            return Some(Victim { item, at: front, looks });
         }
         queues.move_back(front, MAIN);
     }
@@ -114,11 +96,7 @@ fn pop_main(queues: &mut DatedLists<Node, 2>, weight: &mut usize) -> Option<Vict
     let found = queues.pop_front_at(SMALL)?;
     let item = found.1.whole();
     *weight -= item.weight;
-    Some(Victim {
-        item,
-        at: found.0,
-        looks: 0,
-    })
+    Some(Victim { item, at: found.0, looks: 0 })
 }
 
 // Removes the victim, and enters it in the ghost queue if it leaves the small queue. Needs room there. `weight` is

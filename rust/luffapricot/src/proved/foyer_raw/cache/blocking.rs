@@ -81,30 +81,15 @@ where
         if let Some(entry) = self.get_first(now, key.again())? {
             return Ok(entry);
         }
-        let Asking {
-            shares,
-            task,
-            own,
-            notifier,
-            waiter,
-        } = self.asking(&key)?;
+        let Asking { shares, task, own, notifier, waiter } = self.asking(&key)?;
         let shards = &self.shares.shared.shards;
         let hash = key.hash();
         let asked = self.shares.of(&key).get_or_enqueue(now, key, None, notifier)?;
         match asked {
             Lookup::Hit(core) => return Ok(shares.entry(core)),
             Lookup::Wait { token: _ } => {}
-            Lookup::Lead {
-                fetch: id,
-                token: _,
-                required: _,
-            } => {
-                let fetch = Fetch {
-                    id,
-                    now,
-                    hash,
-                    time_to_live: self.time_to_live,
-                };
+            Lookup::Lead { fetch: id, token: _, required: _ } => {
+                let fetch = Fetch { id, now, hash, time_to_live: self.time_to_live };
                 match make() {
                     Ok((value, properties)) => task.complete(fetch, own, value, properties, Source::Outer),
                     Err(fault) => task.fail(fetch, &own, fault),

@@ -13,9 +13,7 @@ use crate::proved::foyer_raw::pipe::Pipe;
 use crate::proved::foyer_raw::replaced::Replaced;
 use crate::proved::foyer_raw::shares::Shares;
 use crate::proved::foyer_core::{Data, Filter, Finder, InsertedOnto, Share, Weighter};
-use crate::proved::foyer_policy::{
-    Error, Event, EventListener, Eviction, HashBuilder, Key, Properties, Result, Value,
-};
+use crate::proved::foyer_policy::{Error, Event, EventListener, Eviction, HashBuilder, Key, Properties, Result, Value};
 use crate::rattle_std::sync::Wait;
 
 impl<H, E, K, V, S, P, W, A, L, Q, T, I> RawCache<H, E, K, V, S, P, W, A, L, Q, T, I>
@@ -60,10 +58,7 @@ where
         };
         let shards = &self.shares.shared.shards;
         let mut leaves = Leaves::new(shards.alloc);
-        let replaced =
-            shards
-                .lock(kept.hash())
-                .replace_if(shards.alloc, At::new(now), seen, kept, &mut leaves);
+        let replaced = shards.lock(kept.hash()).replace_if(shards.alloc, At::new(now), seen, kept, &mut leaves);
         drop(spare);
         match replaced {
             Ok(Replaced::Inserted(made)) => Ok(Replaced::Inserted(self.entered(shares, made, leaves))),
@@ -91,9 +86,7 @@ where
         let (shares, kept, spare) = self.ready(kept)?;
         let shards = &self.shares.shared.shards;
         let mut leaves = Leaves::new(shards.alloc);
-        let made = shards
-            .lock(kept.hash())
-            .insert_if_fits(shards.alloc, At::new(now), kept, &mut leaves);
+        let made = shards.lock(kept.hash()).insert_if_fits(shards.alloc, At::new(now), kept, &mut leaves);
         drop(spare);
         match made {
             Ok(Some(made)) => Ok(Some(self.entered(shares, made, leaves))),
@@ -118,10 +111,7 @@ where
     {
         let shards = &self.shares.shared.shards;
         let (key, mut leaves) = (self.hashed(key), Leaves::new(shards.alloc));
-        let put = self
-            .shares
-            .of(&key)
-            .set_expires(shards.alloc, At::new(now), key, expires, &mut leaves);
+        let put = self.shares.of(&key).set_expires(shards.alloc, At::new(now), key, expires, &mut leaves);
         match put {
             Ok(Some(put)) => {
                 self.was_put(put, leaves);
@@ -155,11 +145,7 @@ where
     fn ready(
         &self,
         kept: Data<K, V, P>,
-    ) -> Result<(
-        Shares<H, E, K, V, S, P, W, A, L, Q, T::Required, I>,
-        Share<K, V, P>,
-        Share<K, V, P>,
-    )> {
+    ) -> Result<(Shares<H, E, K, V, S, P, W, A, L, Q, T::Required, I>, Share<K, V, P>, Share<K, V, P>)> {
         let shards = &self.shares.shared.shards;
         let kept = match Share::new(shards.alloc, kept) {
             Ok(kept) => kept,

@@ -6,8 +6,7 @@ use crate::rattle_std::prelude::*;
 use super::RawCache;
 use crate::proved::foyer_raw::counted::{At, Hashed};
 use crate::proved::foyer_raw::fetch::{
-    Begin, Direct, FetchTypes, Given, NoFetch, Pollable, RawFetch, RawGetOrFetch, RawWait, RequiredFetch,
-    Spawner,
+    Begin, Direct, FetchTypes, Given, NoFetch, Pollable, RawFetch, RawGetOrFetch, RawWait, RequiredFetch, Spawner,
 };
 use crate::proved::foyer_raw::pipe::Pipe;
 use crate::proved::foyer_raw::shares::{Fetch, Shares};
@@ -110,32 +109,14 @@ where
         O: FnOnce() -> Option<T::Optional>,
         X: Spawner<RawFetch<H, E, K, V, S, P, W, A, L, Q, T, I>>,
     {
-        let Asking {
-            shares,
-            task,
-            own,
-            notifier,
-            waiter,
-        } = asking;
+        let Asking { shares, task, own, notifier, waiter } = asking;
         let hash = key.hash();
-        let asked = self
-            .shares
-            .of(&key)
-            .get_or_enqueue(now, key, required, notifier)?;
+        let asked = self.shares.of(&key).get_or_enqueue(now, key, required, notifier)?;
         match asked {
             Lookup::Hit(core) => Ok(RawGetOrFetch::Hit(Some(shares.entry(core)))),
-            Lookup::Lead {
-                fetch,
-                token: _,
-                required,
-            } => {
+            Lookup::Lead { fetch, token: _, required } => {
                 let begin = Begin {
-                    fetch: Fetch {
-                        id: fetch,
-                        now,
-                        hash,
-                        time_to_live: self.time_to_live,
-                    },
+                    fetch: Fetch { id: fetch, now, hash, time_to_live: self.time_to_live },
                     key: own,
                     context,
                     optional: fo(),
@@ -197,9 +178,7 @@ where
         F: FnOnce() -> R,
         X: Spawner<RawFetch<H, E, K, V, S, P, W, A, L, Q, Direct<R>, I>>,
     {
-        let given = Given {
-            fetch: Pollable::new(fetch()),
-        };
+        let given = Given { fetch: Pollable::new(fetch()) };
         let now = At::new(now);
         let key = self.hashed(key);
         if let Some(entry) = self.get_first(now, key.again())? {

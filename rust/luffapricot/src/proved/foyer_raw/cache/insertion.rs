@@ -91,9 +91,7 @@ where
             return Err(shards.refuse_insert(hash, key, properties, kept.weight()));
         };
         let (mut leaves, mut later) = (Leaves::new(shards.alloc), None);
-        let placed = shards
-            .lock(kept.hash())
-            .place(At::new(now), kept, &mut entry, &mut leaves, &mut later);
+        let placed = shards.lock(kept.hash()).place(At::new(now), kept, &mut entry, &mut leaves, &mut later);
         if let Some(kept) = later {
             entry.discard();
             return self.insert_answering(now, shares, kept);
@@ -119,9 +117,7 @@ where
     ) -> Result<RawCacheEntry<H, E, K, V, S, P, W, A, L, Q, T::Required, I>> {
         let shards = &self.shares.shared.shards;
         let mut leaves = Leaves::new(shards.alloc);
-        let made = shards
-            .lock(kept.hash())
-            .emplace(shards.alloc, At::new(now), kept, &mut leaves);
+        let made = shards.lock(kept.hash()).emplace(shards.alloc, At::new(now), kept, &mut leaves);
         match made {
             Ok(made) => Ok(self.entered(shares, made, leaves)),
             Err(error) => Err(self.failed(error, leaves)),
@@ -158,9 +154,7 @@ where
     fn put_share(&self, now: u64, kept: Share<K, V, P>) -> Result<()> {
         let shards = &self.shares.shared.shards;
         let (mut leaves, mut later) = (Leaves::new(shards.alloc), None);
-        let put = shards
-            .lock(kept.hash())
-            .put(At::new(now), kept, &mut leaves, &mut later);
+        let put = shards.lock(kept.hash()).put(At::new(now), kept, &mut leaves, &mut later);
         if let Some(kept) = later {
             return self.put_answering(now, kept);
         }
@@ -177,9 +171,7 @@ where
     fn put_answering(&self, now: u64, kept: Share<K, V, P>) -> Result<()> {
         let shards = &self.shares.shared.shards;
         let mut leaves = Leaves::new(shards.alloc);
-        let put = shards
-            .lock(kept.hash())
-            .put_answering(shards.alloc, At::new(now), kept, &mut leaves);
+        let put = shards.lock(kept.hash()).put_answering(shards.alloc, At::new(now), kept, &mut leaves);
         match put {
             Ok(put) => Ok(self.was_put(put, leaves)),
             Err(error) => Err(self.failed(error, leaves)),
@@ -222,10 +214,7 @@ where
         };
         let alloc = shared.shards.alloc;
         let mut leaves = Leaves::new(alloc);
-        let made =
-            self.shares
-                .lock(hash)
-                .emplace_piece(alloc, At::new(now), piece, hash, weight, &mut leaves);
+        let made = self.shares.lock(hash).emplace_piece(alloc, At::new(now), piece, hash, weight, &mut leaves);
         match made {
             Ok(made) => Ok(self.entered(shares, made, leaves)),
             Err(error) => Err(self.failed(error, leaves)),

@@ -145,10 +145,7 @@ where
     /// # Errors
     /// Those of `get`.
     #[inline]
-    pub fn remove(
-        &self,
-        key: &K,
-    ) -> Result<Option<RawCacheEntry<H, E, K, V, S, P, W, A, L, Q, T::Required, I>>> {
+    pub fn remove(&self, key: &K) -> Result<Option<RawCacheEntry<H, E, K, V, S, P, W, A, L, Q, T::Required, I>>> {
         let key = self.hashed(key);
         let shares = self.shares_for(key.again())?;
         let taken = self.shares.of(&key).remove(key)?;

@@ -84,12 +84,7 @@ impl<E: Eviction, K: Key, V: Value, P: Properties, R, I: Finder<K>> CountedShard
     /// # Errors
     /// F7 if memory runs out; the evictions made so far stand and are in the list.
     #[inline]
-    pub fn flush(
-        &mut self,
-        now: At,
-        leaves: &mut Vec<Leave<K, V, P>>,
-        pieces: &mut Vec<Piece<K, V, P>>,
-    ) -> Result<()> {
+    pub fn flush(&mut self, now: At, leaves: &mut Vec<Leave<K, V, P>>, pieces: &mut Vec<Piece<K, V, P>>) -> Result<()> {
         let room = leaves.len().saturating_add(self.entries() as usize);
         pieces.reserve(room)?;
         self.evict_all(now, leaves)

@@ -74,11 +74,7 @@ impl<E: Eviction, K: Key, V: Value, P: Properties, R, I: Finder<K>> CountedShard
         if !self.shard.owns(entry) {
             return None;
         }
-        let left = self.shard.remove_this(Hold {
-            hash: entry.hash(),
-            id: entry.id(),
-            slot: 0,
-        })?;
+        let left = self.shard.remove_this(Hold { hash: entry.hash(), id: entry.id(), slot: 0 })?;
         self.stats.count_left(FIRST, Event::Remove, &left);
         Some(left)
     }
@@ -128,15 +124,5 @@ fn again<K: Key, V: Value + TryClone, P: Properties + TryClone>(
     let key = entry.key().try_clone().ok()?;
     let properties = entry.properties().try_clone().ok()?.with_expiry(expires);
     let (hash, weight) = (entry.hash(), entry.weight());
-    Share::new(
-        alloc,
-        Data {
-            key,
-            value,
-            properties,
-            hash,
-            weight,
-        },
-    )
-    .ok()
+    Share::new(alloc, Data { key, value, properties, hash, weight }).ok()
 }

@@ -27,9 +27,7 @@ impl<E: Eviction, K: Key, V: Value, P: Properties, R, I: Finder<K>> CountedShard
         required: Option<R>,
         waiter: Notifier<Answer<K, V, P>>,
     ) -> Result<Lookup<K, V, P, R>> {
-        let look = self
-            .shard
-            .get_or_enqueue(now.0, key.hash, key.key, required, waiter);
+        let look = self.shard.get_or_enqueue(now.0, key.hash, key.key, required, waiter);
         count_ask(&mut self.stats, &look);
         look
     }
@@ -81,9 +79,7 @@ impl<E: Eviction, K: Key, V: Value, P: Properties, R, I: Finder<K>> CountedShard
         is_home: bool,
         weight: usize,
     ) -> RawEnded<K, V, P> {
-        let ended = self.shard.complete_piece(
-            alloc, now.0, key.hash, key.key, fetch, piece, own, is_home, weight,
-        );
+        let ended = self.shard.complete_piece(alloc, now.0, key.hash, key.key, fetch, piece, own, is_home, weight);
         count_ended(&mut self.stats, now.0, &ended);
         ended
     }

@@ -71,9 +71,7 @@ impl<E: Eviction, K: Key, V: Value, P: Properties, R, I: Finder<K>> CountedShard
         kept: Share<K, V, P>,
         leaves: &mut Leaves<K, V, P>,
     ) -> Result<RawInserted<K, V, P>> {
-        let made = self
-            .shard
-            .emplace_share(alloc, now.0, kept, Source::Outer, &mut self.left);
+        let made = self.shard.emplace_share(alloc, now.0, kept, Source::Outer, &mut self.left);
         count_made(&mut self.stats, &made);
         count_leaves(&mut self.stats, now.0, self.left.as_slice());
         leaves.take(&mut self.left);
@@ -109,9 +107,7 @@ impl<E: Eviction, K: Key, V: Value, P: Properties, R, I: Finder<K>> CountedShard
         weight: usize,
         leaves: &mut Leaves<K, V, P>,
     ) -> Result<RawInserted<K, V, P>> {
-        let made = self
-            .shard
-            .emplace_piece(alloc, now.0, piece, hash, weight, &mut self.left);
+        let made = self.shard.emplace_piece(alloc, now.0, piece, hash, weight, &mut self.left);
         count_made(&mut self.stats, &made);
         count_leaves(&mut self.stats, now.0, self.left.as_slice());
         leaves.take(&mut self.left);
@@ -143,7 +139,6 @@ impl<E: Eviction, K: Key, V: Value, P: Properties, R, I: Finder<K>> CountedShard
         if self.shard.knows(hash, piece) {
             return self.shard.refuses_get(FIRST, hash, piece.key());
         }
-        self.shard
-            .refuses_insert(hash, piece.key(), piece.properties(), weight)
+        self.shard.refuses_insert(hash, piece.key(), piece.properties(), weight)
     }
 }

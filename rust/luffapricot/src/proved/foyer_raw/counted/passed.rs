@@ -75,9 +75,6 @@ impl<'a, K> Hashed<'a, K> {
     /// Returns the same key with its hash.
     #[inline(always)]
     pub fn again(&self) -> Hashed<'a, K> {
-        Hashed {
-            hash: self.hash,
-            key: self.key,
-        }
+        Hashed { hash: self.hash, key: self.key }
     }
 }

@@ -30,9 +30,7 @@ impl<X: Future<Output = ()>> ListSpawner<X> {
     /// Creates an empty list.
     #[inline]
     pub fn new(alloc: Global) -> Self {
-        ListSpawner {
-            tasks: Vec::new(alloc),
-        }
+        ListSpawner { tasks: Vec::new(alloc) }
     }
 
     /// Polls each task once, drops those that have ended, and returns how many remain.

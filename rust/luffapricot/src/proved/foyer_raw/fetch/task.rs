@@ -80,13 +80,7 @@ where
         shares: Shares<H, E, K, V, S, P, W, A, L, Q, T::Required, I>,
         begin: Begin<K, T::Context, T::Optional, T::Required>,
     ) -> Self {
-        let Begin {
-            fetch,
-            key,
-            context,
-            optional,
-            required,
-        } = begin;
+        let Begin { fetch, key, context, optional, required } = begin;
         RawFetch {
             state: RawFetchState::Init,
             fetch,

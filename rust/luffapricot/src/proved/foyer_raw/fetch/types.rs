@@ -48,17 +48,9 @@ pub trait FetchTypes<K, V, P> {
 }
 
 /// The future of an optional fetch.
-pub type OptionalFuture<K, V, P, T> = <<T as FetchTypes<K, V, P>>::Optional as OptionalFetchBuilder<
-    K,
-    V,
-    P,
-    <T as FetchTypes<K, V, P>>::Context,
->>::Fetch;
+pub type OptionalFuture<K, V, P, T> =
+    <<T as FetchTypes<K, V, P>>::Optional as OptionalFetchBuilder<K, V, P, <T as FetchTypes<K, V, P>>::Context>>::Fetch;
 
 /// The future of a required fetch.
-pub type RequiredFuture<K, V, P, T> = <<T as FetchTypes<K, V, P>>::Required as RequiredFetchBuilder<
-    K,
-    V,
-    P,
-    <T as FetchTypes<K, V, P>>::Context,
->>::Fetch;
+pub type RequiredFuture<K, V, P, T> =
+    <<T as FetchTypes<K, V, P>>::Required as RequiredFetchBuilder<K, V, P, <T as FetchTypes<K, V, P>>::Context>>::Fetch;

@@ -28,10 +28,7 @@ where
     Q: Pipe<Key = K, Value = V, Properties = P>,
 {
     // Until the result came.
-    open: Option<(
-        Shares<H, E, K, V, S, P, W, A, L, Q, R, I>,
-        Waiter<Answer<K, V, P>>,
-    )>,
+    open: Option<(Shares<H, E, K, V, S, P, W, A, L, Q, R, I>, Waiter<Answer<K, V, P>>)>,
 }
 
 impl<H, E, K, V, S, P, W, A, L, Q, R, I> RawWait<H, E, K, V, S, P, W, A, L, Q, R, I>
@@ -47,23 +44,16 @@ where
 {
     // Makes a wait for what this receiver gets.
     #[inline]
-    pub(crate) fn new(
-        shares: Shares<H, E, K, V, S, P, W, A, L, Q, R, I>,
-        waiter: Waiter<Answer<K, V, P>>,
-    ) -> Self {
-        RawWait {
-            open: Some((shares, waiter)),
-        }
+    pub(crate) fn new(shares: Shares<H, E, K, V, S, P, W, A, L, Q, R, I>, waiter: Waiter<Answer<K, V, P>>) -> Self {
+        RawWait { open: Some((shares, waiter)) }
     }
 
     // Returns the result if it came already, and else the wait unchanged.
     #[inline]
     pub(crate) fn try_now(
         mut self,
-    ) -> crate::rattle_std::result::Result<
-        Result<Option<RawCacheEntry<H, E, K, V, S, P, W, A, L, Q, R, I>>>,
-        Self,
-    > {
+    ) -> crate::rattle_std::result::Result<Result<Option<RawCacheEntry<H, E, K, V, S, P, W, A, L, Q, R, I>>>, Self>
+    {
         let Some((shares, mut waiter)) = self.open.take() else {
             return Ok(Err(Error::new(Reason::Spent)));
         };
@@ -212,8 +202,7 @@ where
     #[inline]
     pub fn try_unwrap(
         self,
-    ) -> crate::rattle_std::result::Result<Result<RawCacheEntry<H, E, K, V, S, P, W, A, L, Q, R, I>>, Self>
-    {
+    ) -> crate::rattle_std::result::Result<Result<RawCacheEntry<H, E, K, V, S, P, W, A, L, Q, R, I>>, Self> {
         match self {
             RawGetOrFetch::Hit(Some(entry)) => Ok(Ok(entry)),
             RawGetOrFetch::Hit(None) => Ok(Err(Error::new(Reason::Spent))),

@@ -136,9 +136,7 @@ where
         pieces: &mut Vec<Piece<K, V, P>>,
     ) -> Result<()> {
         for shard in self.all.as_slice() {
-            shard
-                .lock(&self.rt)
-                .flush_if(self.alloc, predicate, leaves, pieces)?;
+            shard.lock(&self.rt).flush_if(self.alloc, predicate, leaves, pieces)?;
         }
         Ok(())
     }

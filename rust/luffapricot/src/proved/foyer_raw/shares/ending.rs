@@ -54,9 +54,7 @@ where
         let properties = expiring(properties, fetch.now, fetch.time_to_live);
         let kept = self.shared.data(fetch.hash, key, value, properties);
         let alloc = self.shared.shards.alloc;
-        let ended = self
-            .lock(kept.hash)
-            .complete(alloc, fetch.now, fetch.id, kept, source);
+        let ended = self.lock(kept.hash).complete(alloc, fetch.now, fetch.id, kept, source);
         self.ended(ended);
     }
 

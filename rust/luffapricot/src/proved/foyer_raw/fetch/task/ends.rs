@@ -55,10 +55,7 @@ where
     // Ends the fetch with a piece.
     #[inline]
     fn complete_piece(&self, key: &K, piece: Piece<K, V, P>) {
-        let ended =
-            self.shares
-                .shared
-                .complete_piece(self.fetch.now, self.fetch.hashed(key), self.fetch.id, piece);
+        let ended = self.shares.shared.complete_piece(self.fetch.now, self.fetch.hashed(key), self.fetch.id, piece);
         self.shares.ended(ended);
     }
 
