@@ -104,6 +104,9 @@ fn wakes<H: Runtime>(rt: H, config: EvictionConfig, is_fetched: bool) -> Outcome
     );
     let [then, later] = polls;
     same(rt, "polls while both sleep", &later, &then)?;
+    // Rust polls without a waker, then with one, and once more if an older wake-up was left.
+    let are_few = then[0].max(then[1]) <= 3;
+    same(rt, "polls before they sleep are few", &are_few, &true)?;
     let value = if is_fetched { 1 } else { 2 };
     same(rt, "value", &*found??, &value)?;
     let [looked, fetched] = seen(&[&waited, &worked]);
